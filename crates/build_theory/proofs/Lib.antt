@@ -1,0 +1,14 @@
+pub mod Lists
+pub mod Files
+pub mod Whole
+pub mod Points
+pub mod Behind
+pub mod Fold
+pub mod Stores
+pub mod ByNode
+pub mod Honest
+pub mod Places
+pub mod Sweep
+pub mod Example
+pub mod Made
+pub mod Reading

@@ -1,0 +1,46 @@
+-- How a session ends.
+use Rattle.std.proofs.Common.{◌≡◌, ◌⊎◌, inl, inr, ℕ, Bool, true, false, List, subst}
+use Rattle.std.specs.declared.option.Option.{Option}
+use Rattle.std.specs.Option.{IfSome}
+use Rattle.std.specs.Io.KnownBytes.{Appends}
+use Rattle.mk_base.specs.declared.status.Status.{Status}
+use Rattle.mk_base.specs.declared.status.Status.TheVariants as status
+use Rattle.mk_io.specs.Outside.{AppendsFront}
+use Rattle.hsmake_top.specs.Session.{HasText, Ended, EndedBad}
+use Rattle.hsmake_top.specs.Turn.{IsEnd}
+
+module _ (l0 k0 k1 : Option (List ℕ)) (n0 n1 : ℕ) (answer : Status) where
+  -- in the middle of a script
+  pub stopped : (answer ≡ status.Done → ⊥) → (answer ≡ status.Failed → ⊥) → (answer ≡ status.BadScript → ⊥) → IfSome l0 (λ bytes. (text : List ℕ) → HasText bytes text → AppendsFront k0 k1 text) → IsEnd l0 k0 k1 n0 n1 answer
+  stopped a b c f = record { done = λ e. absurd (a e); failed = λ e. absurd (b e); bad = λ e. absurd (c e); front = f }
+
+  -- at a bad place
+  pub ended_bad : (answer ≡ status.BadScript) ⊎ ((answer ≡ status.WriteFault) ⊎ (answer ≡ status.NoMemory))
+      → (answer ≡ status.BadScript → IfSome l0 (λ bytes. (text : List ℕ) × EndedBad bytes n0 n1 text × Appends k0 k1 text))
+      → IfSome l0 (λ bytes. (text : List ℕ) → HasText bytes text → AppendsFront k0 k1 text) → IsEnd l0 k0 k1 n0 n1 answer
+  ended_bad which b f = record { done = λ e. absurd (not_done which e); failed = λ e. absurd (not_failed which e); bad = b; front = f }
+    where
+      not_done : (answer ≡ status.BadScript) ⊎ ((answer ≡ status.WriteFault) ⊎ (answer ≡ status.NoMemory)) → answer ≡ status.Done → ⊥
+      not_done (inl a) e = cc
+      not_done (inr (inl a)) e = cc
+      not_done (inr (inr a)) e = cc
+
+      not_failed : (answer ≡ status.BadScript) ⊎ ((answer ≡ status.WriteFault) ⊎ (answer ≡ status.NoMemory)) → answer ≡ status.Failed → ⊥
+      not_failed (inl a) e = cc
+      not_failed (inr (inl a)) e = cc
+      not_failed (inr (inr a)) e = cc
+
+  -- at quit
+  pub ended_good : (failed : Bool) → (answer ≡ status.Done) ⊎ (answer ≡ status.Failed) → (answer ≡ status.Done → failed ≡ false) → (answer ≡ status.Failed → failed ≡ true)
+      → IfSome l0 (λ bytes. (text : List ℕ) × Ended bytes failed n0 n1 text × Appends k0 k1 text)
+      → IfSome l0 (λ bytes. (text : List ℕ) → HasText bytes text → AppendsFront k0 k1 text) → IsEnd l0 k0 k1 n0 n1 answer
+  ended_good failed which a b d f = record {
+    done = λ e. subst (λ t. IfSome l0 (λ bytes. (text : List ℕ) × Ended bytes t n0 n1 text × Appends k0 k1 text)) (a e) d;
+    failed = λ e. subst (λ t. IfSome l0 (λ bytes. (text : List ℕ) × Ended bytes t n0 n1 text × Appends k0 k1 text)) (b e) d;
+    bad = λ e. absurd (not_bad which e);
+    front = f;
+  }
+    where
+      not_bad : (answer ≡ status.Done) ⊎ (answer ≡ status.Failed) → answer ≡ status.BadScript → ⊥
+      not_bad (inl a) e = cc
+      not_bad (inr a) e = cc

@@ -1,0 +1,7 @@
+pub mod Files
+pub mod Results
+pub mod Windows
+pub mod Folds
+pub mod Turns
+pub mod Ends
+pub mod Words

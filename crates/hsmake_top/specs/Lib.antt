@@ -1,0 +1,5 @@
+pub mod Session
+pub mod Usage
+pub mod Kept
+pub mod Ahead
+pub mod Turn

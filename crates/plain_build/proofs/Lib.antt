@@ -1,0 +1,14 @@
+pub mod Down
+pub mod Env
+pub mod Exits
+pub mod First
+pub mod Firsts
+pub mod Fuel
+pub mod Least
+pub mod Loops
+pub mod Next
+pub mod Order
+pub mod Paths
+pub mod Sorting
+pub mod Sound
+pub mod Trees

@@ -1,0 +1,5 @@
+pub mod Done
+pub mod Kept
+pub mod Plain
+pub mod Result
+pub mod Steps

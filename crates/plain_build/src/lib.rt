@@ -1,0 +1,10 @@
+//! Builds of the part of the language that is built so far.
+#![tactic(auto)]
+
+pub mod build;
+mod done;
+mod graph;
+mod node;
+mod places;
+mod reading;
+mod sources;

@@ -1,0 +1,69 @@
+//! Reading the source of a node.
+ghost use Rattle.std.specs.Prelude.{◌≡◌, ◌≤◌, IfOk, length};
+ghost use Rattle.std.specs.List.{list_all};
+ghost use Rattle.plain_form.specs.Form.{IsSmall};
+ghost use Rattle.plain_form.specs.Words as words;
+ghost use Rattle.plain_build.specs.Plain.{Settings, imports_in};
+ghost use Rattle.plain_build.specs.Plain as spec;
+
+use mk_base::memory::NoMemory;
+use mk_base::name::Node;
+use mk_base::text::Text;
+use plain_form::form::{Reading, read_form};
+use std::alloc::Global;
+
+fn is_capital(byte: u8) -> bool
+    ensures { result ≡ words.is_capital byte }
+{
+    matches!(byte, b'A'..=b'Z')
+}
+
+fn is_letter_or_digit(byte: u8) -> bool
+    ensures { result ≡ words.is_letter_or_digit byte }
+{
+    matches!(byte, b'A'..=b'Z' | b'a'..=b'z' | b'0'..=b'9')
+}
+
+fn are_letters_or_digits(text: &[u8]) -> bool
+    ensures { result ≡ list_all words.is_letter_or_digit text.now }
+{
+    text.iter().all(|b| is_letter_or_digit(*b))
+}
+
+/// Whether a text is one word of letters and digits that begins with a capital.
+fn is_word(text: &[u8]) -> bool
+    ensures { result ≡ words.is_con text.now }
+{
+    match text {
+        [] => false,
+        [first, rest @ ..] => is_capital(*first) && are_letters_or_digits(rest),
+    }
+}
+
+/// Reads the source of a node, in a tree that imports Prelude or not.
+pub fn read_node(
+    alloc: Global,
+    prelude: bool,
+    node: &Node,
+    bytes: &[u8],
+) -> Result<Reading, NoMemory>
+    requires { length bytes.now ≤ 1048576 }
+    ensures reading { IfOk result (λ r. (g : Settings) → g.prelude ≡ prelude → r ≡ spec.reading g node.now bytes.now) }
+    ensures small { IfOk result IsSmall }
+{
+    let module = node.module.text.as_slice();
+    if prelude || node.boot || !is_word(module) {
+        return Ok(Reading::Leaves(1));
+    }
+    read_form(alloc, module, bytes)
+}
+
+/// The imports of what was read.
+pub fn imports_of(reading: &Reading) -> &[Text]
+    ensures { result.now ≡ imports_in reading.now }
+{
+    match reading {
+        Reading::Form(written) => written.imports.as_slice(),
+        Reading::Leaves(_) => &[],
+    }
+}

@@ -1,0 +1,7 @@
+use Rattle.std.proofs.Common.{◌≡◌, ◌++◌, take}
+use Rattle.std.specs.List.{flat_map}
+use Rattle.plain_face.specs.Interface.{name_bytes}
+use Rattle.plain_face.proofs.sections.put_names.Given as goal
+
+abbrev pub invariant-loop-name : goal.invariant-loop-name
+invariant-loop-name l = l.out ≡ l.fn.out ++ flat_map name_bytes (take l.name-index l.names)

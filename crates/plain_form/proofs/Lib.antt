@@ -1,0 +1,8 @@
+pub mod Pieces
+pub mod Lines
+pub mod Joined
+pub mod Spelled
+pub mod Small
+pub mod Sources
+pub mod Forms
+pub mod FirstBad

@@ -1,0 +1,9 @@
+//! The report of a build.
+#![tactic(auto)]
+
+mod counts;
+mod names;
+mod reasons;
+pub mod report;
+#[cfg(test)]
+mod tests;

@@ -1,0 +1,10 @@
+pub mod Split
+pub mod Paths
+pub mod Numbers
+pub mod Laws
+pub mod Seq
+pub mod Forms
+pub mod Fields
+pub mod Next
+pub mod Spans
+pub mod Scripts

@@ -1,0 +1,15 @@
+use Rattle.std.proofs.Common.{refl, arith}
+use Rattle.session_lang.specs.Spelling.{Build}
+use Rattle.session_lang.proofs.Forms.{other_word, part_of_word, part_of_tail}
+use Rattle.session_lang.proofs.piece.build_at.Goals as goal
+
+pub returns-in-More-number_at : goal.returns-in-More-number_at
+returns-in-More-number_at c =
+    let h = c.in-More-number_at.ensures in
+    part_of_tail 2 c.args.bytes.now c.in-Whole.rest.now c.in-Whole.ensures.1 (Build h.0) h.1 (omega (arith, h.2)) refl h.3 h.4
+
+pub returns-in-More : goal.returns-in-More
+returns-in-More c = let h = c.in-More.ensures in part_of_word 2 c.args.bytes.now h.1 h.3 h.4 (Build 1) refl refl
+
+pub returns-in-Bad : goal.returns-in-Bad
+returns-in-Bad c = other_word 2 c.args.bytes.now c.in-Bad.ensures

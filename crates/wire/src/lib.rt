@@ -1,0 +1,6 @@
+//! Numbers and texts as bytes, in their one spelling.
+#![tactic(auto)]
+
+pub mod put;
+#[cfg(test)]
+mod tests;
