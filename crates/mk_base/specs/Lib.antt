@@ -1,3 +1,4 @@
+pub mod Classes
 pub mod Kinds
 pub mod Order
 pub mod Types
