@@ -3,6 +3,8 @@
 
 #[cfg(test)]
 mod rows;
+#[cfg(test)]
+mod sessions;
 pub mod run;
 mod script;
 mod session;

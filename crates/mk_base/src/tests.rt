@@ -1,4 +1,5 @@
 //! What no clause says: that calls succeed with ample memory, and what is printed.
+use crate::char_class::{CharClass, class_of};
 use crate::diag::{Diag, order_diags, same_diag};
 use crate::fingerprint::Fingerprint;
 use crate::kind::{Kind, copy_kind, print_kind, same_kind};
@@ -131,4 +132,22 @@ fn kinds_and_types_are_printed(rt: HostRuntime) -> Result<(), Fail> {
     assert_eq!(rt; levels_within(&ty, 2), Some(2));
     assert_eq!(rt; levels_within(&ty, 1), None);
     Ok(())
+}
+
+#[test]
+fn characters_have_classes(rt: HostRuntime) {
+    let rows = [
+        (CharClass::Small, "az_\u{e9}\u{df}\u{3b1}"),
+        (CharClass::Large, "AZ\u{c9}\u{3a3}\u{1c5}"),
+        (CharClass::Digit, "09\u{663}"),
+        (CharClass::Symbol, "!#$%&*+./<=>?@\\^|-~:\u{20ac}\u{2192}\u{ab}\u{203f}"),
+        (CharClass::Special, "(),;[]`{}"),
+        (CharClass::White, "\t\n\u{b}\u{c}\r \u{a0}\u{2003}\u{85}"),
+        (CharClass::Other, "\"'\0\u{1f}\u{7f}\u{3042}\u{aa}\u{2b0}\u{bd}\u{e000}"),
+    ];
+    for (class, characters) in rows {
+        for character in characters.chars() {
+            assert_eq!(rt; class_of(character), class, "{character:?}");
+        }
+    }
 }

@@ -88,24 +88,13 @@ entity_same a b e =
     let r = both (same_space a.occ.space b.occ.space) _ q.1 in
     name_path a b (same_from_test _ _ p.0) (same_from_test _ _ q.0) (space_from_test _ _ r.0) (same_from_test _ _ r.1)
 
-space_itself : (s : Space) → (s ≡ Var → ⊥) → same_space s s ≡ true
-space_itself Var n = absurd (n refl)
-space_itself Con n = refl
-space_itself Ty n = refl
+space_itself : (s : Space) → same_space s s ≡ true
+space_itself Var = refl
+space_itself Con = refl
+space_itself Ty = refl
 
-space_of_value : (s t : Space) → s ≡ Var → same_space s t ≡ false
-space_of_value Var t e = refl
-space_of_value Con t e = absurd (let h : ⊥ = cc in h)
-space_of_value Ty t e = absurd (let h : ⊥ = cc in h)
-
-pub entity_itself : (n : Name) → (n.occ.space ≡ Var → ⊥) → same_entity n n ≡ true
-entity_itself n v = rw (text_itself n.unit.text, text_itself n.module.text, space_itself n.occ.space v, text_itself n.occ.text)
-
-pub value_is_nowhere : (n m : Name) → n.occ.space ≡ Var → same_entity n m ≡ false
-value_is_nowhere n m v =
-    not_either (pointwise nat_eq n.unit.text m.unit.text) (pointwise nat_eq n.module.text m.module.text && (same_space n.occ.space m.occ.space && pointwise nat_eq n.occ.text m.occ.text))
-    (not_either (pointwise nat_eq n.module.text m.module.text) (same_space n.occ.space m.occ.space && pointwise nat_eq n.occ.text m.occ.text)
-    (rw (space_of_value n.occ.space m.occ.space v)))
+pub entity_itself : (n : Name) → same_entity n n ≡ true
+entity_itself n = rw (text_itself n.unit.text, text_itself n.module.text, space_itself n.occ.space, text_itself n.occ.text)
 
 -- ---- what the derives say
 

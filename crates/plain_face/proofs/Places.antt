@@ -16,7 +16,7 @@ use Rattle.mk_base.specs.declared.name.Space.TheVariants.{Var}
 use Rattle.mk_base.specs.contracts.name.NameOrd.TheImpl as ord
 use Rattle.plain_scope.specs.Scope.{same_entity}
 use Rattle.plain_face.specs.Interface.{AreBefore, place}
-use Rattle.plain_face.proofs.Names.{name_total, name_same, entity_same, entity_itself, value_is_nowhere, derived_cmp, strict}
+use Rattle.plain_face.proofs.Names.{name_total, name_same, entity_same, entity_itself, derived_cmp, strict}
 
 not_true : (b : Bool) → (b ≡ true → ⊥) → b ≡ false
 not_true false n = refl
@@ -28,19 +28,16 @@ not_less n e = let q : name_cmp n n ≡ Equal = tied_itself name_total n in let 
 not_greater : (n : Name) → name_cmp n n ≡ Greater → ⊥
 not_greater n e = let q : name_cmp n n ≡ Equal = tied_itself name_total n in let h : ⊥ = cc in h
 
-pub place_of_value : (names : List Name) (n : Name) → n.occ.space ≡ Var → length names ≡ place names n
-place_of_value names n v = sym (position_or_len_is (same_entity n) names (length names) n (omega arith) (λ k l. value_is_nowhere n (get_or names k n) v) (λ l. absurd (omega arith)))
-
 module _ (names : List Name) (n : Name) (s : AreBefore (λ a b. name_cmp a b ≡ Less) names) where
-  pub place_found : (i : ℕ) → (n.occ.space ≡ Var → ⊥) → i < length names → HoldsAt (λ y. (ord.ghosts).cmp y n ≡ Equal) names i → i ≡ place names n
-  place_found i v l h =
+  pub place_found : (i : ℕ) → i < length names → HoldsAt (λ y. (ord.ghosts).cmp y n ≡ Equal) names i → i ≡ place names n
+  place_found i l h =
       let e : get_or names i n ≡ n = name_same (get_or names i n) n (sym (derived_cmp (get_or names i n) n) ∙ h n) in
       sym (position_or_len_is (same_entity n) names i n (omega arith)
       (λ k j. not_true (same_entity n (get_or names k n)) (λ t.
       let q : get_or names k n ≡ n = sym (entity_same n (get_or names k n) t) in
       let less : name_cmp (get_or names k n) (get_or names i n) ≡ Less = Less-from_sorted name_cmp names k i n (strict name_cmp names s) j l in
       not_less n (subst (λ a. name_cmp a n ≡ Less) q (subst (λ b. name_cmp (get_or names k n) b ≡ Less) e less))))
-      (λ j. subst (λ a. same_entity n a ≡ true) (sym e) (entity_itself n v)))
+      (λ j. subst (λ a. same_entity n a ≡ true) (sym e) (entity_itself n)))
 
   sorted : IsSorted name_cmp names
   sorted k d l h =

@@ -1,28 +1,17 @@
 //! Where a name stands in the table.
-ghost use Rattle.std.specs.Prelude.{◌≡◌, ◌↔◌, ◌≤◌, IsTrue, length};
+ghost use Rattle.std.specs.Prelude.{◌≡◌, ◌≤◌, length};
 ghost use Rattle.std.specs.declared.cmp.Ordering.TheVariants.{Less};
 ghost use Rattle.mk_base.specs.Order.{name_cmp};
-ghost use Rattle.mk_base.specs.declared.name.Space.TheVariants.{Var as Value};
 ghost use Rattle.plain_face.specs.Interface.{AreBefore, place};
 
-use mk_base::name::{Name, Space};
+use mk_base::name::Name;
 
-/// Whether a name is a value's.
-fn is_value(name: &Name) -> bool
-    ensures { IsTrue result ↔ (name.now.occ.space ≡ Value) }
-{
-    name.occ.space == Space::Var
-}
-
-/// The place of a type or constructor in a table in order, counted from 0; the table's length for a name that has no place there.
+/// The place of a name in a table in order, counted from 0; the table's length for a name that has no place there.
 pub fn place_of(names: &[Name], name: &Name) -> usize
     requires { AreBefore (λ a b. name_cmp a b ≡ Less) names.now }
     ensures at { result ≡ place names.now name.now }
     ensures bound { result ≤ length names.now }
 {
-    if is_value(name) {
-        return names.len();
-    }
     match names.binary_search(name) {
         Ok(at) => at,
         Err(_) => names.len(),

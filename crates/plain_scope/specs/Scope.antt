@@ -4,7 +4,7 @@ use Rattle.std.specs.declared.option.Option.{Option}
 use Rattle.std.specs.List.{list_all, list_any, flat_map, filter}
 use Rattle.mk_base.specs.declared.name.Name.{Name}
 use Rattle.mk_base.specs.declared.name.Space.{Space}
-use Rattle.mk_base.specs.declared.name.Space.TheVariants.{Con, Ty}
+use Rattle.mk_base.specs.declared.name.Space.TheVariants.{Var, Con, Ty}
 use Rattle.mk_base.specs.declared.diag.Diag.{Diag}
 use Rattle.plain_form.specs.declared.form.DataLine.{DataLine}
 use Rattle.plain_form.specs.declared.form.Written.{Written}
@@ -19,6 +19,7 @@ entity unit m space text = record { unit = record { text = unit }; «module» = 
 
 -- two names of the tree's unit are the same where module, space and text are
 abbrev pub same_space : Space → Space → Bool
+same_space Var Var = true
 same_space Con Con = true
 same_space Ty Ty = true
 same_space _ _ = false

@@ -1,7 +1,8 @@
 //! What a module declares and what its names refer to.
-ghost use Rattle.std.specs.Prelude.{◌≡◌, ◌<◌, ℕ, List as Row, IfOk, length};
+ghost use Rattle.std.specs.Prelude.{◌≡◌, ◌≤◌, ◌<◌, ◌+◌, ℕ, List as Row, IfOk, length};
 ghost use Rattle.std.specs.List.{AllByRecursion};
-ghost use Rattle.plain_form.specs.Form.{is_small};
+ghost use Rattle.plain_form.specs.Form.{line_text, OfData};
+ghost use Rattle.plain_form.specs.declared.form.DataLine.{DataLine};
 ghost use Rattle.plain_scope.specs.Ordered.{AreOrdered};
 ghost use Rattle.plain_scope.specs.Scope.{check_of, contents_at, scope_diags};
 
@@ -46,7 +47,8 @@ pub fn check(
     contents: &[Content],
     imports: &[usize],
 ) -> Result<Checked, NoMemory>
-    requires small { is_small written.now }
+    requires lines { length written.now.imports + length written.now.datas ≤ 1048576 }
+    requires words { AllByRecursion (λ (d : DataLine). length (line_text (OfData d)) ≤ 1048576) written.now.datas }
     requires within { AllByRecursion (λ i. i < length contents.now) imports.now }
     ensures { IfOk result (λ c. c ≡ check_of unit.now name.now written.now (contents_at contents.now imports.now)) }
 {

@@ -20,6 +20,7 @@ fn same_space(a: Space, b: Space) -> bool
     ensures { result ≡ same_space_of a b }
 {
     match (a, b) {
+        (Space::Var, Space::Var) => true,
         (Space::Con, Space::Con) => true,
         (Space::Ty, Space::Ty) => true,
         _ => false,

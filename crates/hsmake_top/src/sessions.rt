@@ -1,0 +1,135 @@
+//! Whole builds with their reports, worked out by hand.
+use crate::tests::answer;
+use mk_base::list::List;
+use mk_base::memory::NoMemory;
+use mk_base::status::Status;
+use std::alloc::Global;
+use std::test::Fail;
+use std::thread::Threads;
+
+// A line is a tree and the report of its build, with a bar between. The files of a tree stand with a semicolon between
+// them, each as its path, a colon and its text. A tilde ends a line of a text or a report; the last one of a text is
+// left out. E00 comes where a source leaves the form, E10 where an import isn't there.
+const FORMS_AND_IMPORTS: &str = "
+A.hs:module A where|A: checked: no interface~build: 1 ok, 1 checked, 0 failed, 0 blocked~
+B.hs:module B where~import A~data U = D T|B: failed~B.hs:2:8: error E10: module A not found~build: 0 ok, 0 checked, 1 failed, 0 blocked~
+A.hs:module A where~x = 1|A: checked: no interface~A.hs:2:1: error E00: this form is not built yet~build: 0 ok, 1 checked, 1 failed, 0 blocked~
+C.hs:module C where~import A~import B|C: failed~C.hs:2:8: error E10: module A not found~C.hs:3:8: error E10: module B not found~build: 0 ok, 0 checked, 1 failed, 0 blocked~
+C.hs:module C where~import B~import A~import B~data T = D X|C: failed~C.hs:2:8: error E10: module B not found~C.hs:3:8: error E10: module A not found~C.hs:4:8: error E10: module B not found~build: 0 ok, 0 checked, 1 failed, 0 blocked~
+A.hs:module A where~import A|A: checked: no interface~A.hs:2:1: error E00: this form is not built yet~build: 0 ok, 1 checked, 1 failed, 0 blocked~
+A.hs:module A where~import B;B.hs:module B where|A: checked: no interface~A.hs:2:1: error E00: this form is not built yet~B: checked: no interface~build: 1 ok, 2 checked, 1 failed, 0 blocked~
+Q.hs:module Q where~import Prim|Q: checked: no interface~Q.hs:2:1: error E00: this form is not built yet~build: 0 ok, 1 checked, 1 failed, 0 blocked~
+A.hs:module B where~import C|A: checked: no interface~A.hs:1:1: error E00: this form is not built yet~build: 0 ok, 1 checked, 1 failed, 0 blocked~
+A.hs:|A: checked: no interface~A.hs:1:1: error E00: this form is not built yet~build: 0 ok, 1 checked, 1 failed, 0 blocked~
+A/B.hs:module A.B where|A.B: checked: no interface~A/B.hs:1:1: error E00: this form is not built yet~build: 0 ok, 1 checked, 1 failed, 0 blocked~
+M.hs-boot:module M where;N.hs:module N where~import M|M[boot]: checked: no interface~M.hs-boot:1:1: error E00: this form is not built yet~N: failed~N.hs:2:8: error E10: module M not found~build: 0 ok, 1 checked, 2 failed, 0 blocked~
+M.hs:module M where;M.hs-boot:module M where;N.hs:module N where~import M|M[boot]: checked: no interface~M.hs-boot:1:1: error E00: this form is not built yet~M: blocked by M[boot]~N: blocked by M[boot]~build: 0 ok, 1 checked, 1 failed, 2 blocked~
+a.hs:module a where;A.hsi:x;Prim.hs:module Prim where;A-B.hs:y|build: 0 ok, 0 checked, 0 failed, 0 blocked~
+Z.hs:module Z where;B.hs:module B where;A1.hs:module A1 where;A.hs:module A where|A: checked: no interface~A1: checked: no interface~B: checked: no interface~Z: checked: no interface~build: 4 ok, 4 checked, 0 failed, 0 blocked~
+A.hs:module A where~data T =  C|A: checked: no interface~A.hs:2:1: error E00: this form is not built yet~build: 0 ok, 1 checked, 1 failed, 0 blocked~
+B.hs:module B where~data T = C~import A|B: checked: no interface~B.hs:3:1: error E00: this form is not built yet~build: 0 ok, 1 checked, 1 failed, 0 blocked~
+A.hs:module A where~data T = C~data U|A: checked: no interface~A.hs:3:1: error E00: this form is not built yet~build: 0 ok, 1 checked, 1 failed, 0 blocked~
+A.hs:module A where~data T = C a|A: checked: no interface~A.hs:2:1: error E00: this form is not built yet~build: 0 ok, 1 checked, 1 failed, 0 blocked~
+B.hs:module B where~import A~oh no;C.hs:module C where~import B|B: checked: no interface~B.hs:3:1: error E00: this form is not built yet~C: blocked by B~build: 0 ok, 1 checked, 1 failed, 1 blocked~
+";
+
+// The same with E21 for what isn't in scope, E22 for what is ambiguous and E23 for what is defined twice.
+const SCOPES: &str = "
+A.hs:module A where~data T = C X|A: checked: no interface~A.hs:2:12: error E21: X is not in scope~build: 0 ok, 1 checked, 1 failed, 0 blocked~
+A.hs:module A where~data T = C X Y T X|A: checked: no interface~A.hs:2:12: error E21: X is not in scope~A.hs:2:14: error E21: Y is not in scope~A.hs:2:18: error E21: X is not in scope~build: 0 ok, 1 checked, 1 failed, 0 blocked~
+A.hs:module A where~data S = K~data T = M;B.hs:module B where~data T = C;C.hs:module C where~import A~import B~data U = D T|A: checked: no interface~B: checked: no interface~C: checked: no interface~C.hs:4:12: error E22: T is ambiguous~build: 2 ok, 3 checked, 1 failed, 0 blocked~
+A.hs:module A where~data T = M;B.hs:module B where~data T = C;C.hs:module C where~import A~import B~data U = D|A: checked: no interface~B: checked: no interface~C: checked: no interface~build: 3 ok, 3 checked, 0 failed, 0 blocked~
+A.hs:module A where~data T = M;C.hs:module C where~import A~import A~data U = D T|A: checked: no interface~C: checked: no interface~build: 2 ok, 2 checked, 0 failed, 0 blocked~
+A.hs:module A where~data T = M;B.hs:module B where~import A~data T = C~data U = D T|A: checked: no interface~B: checked: no interface~B.hs:4:12: error E22: T is ambiguous~build: 1 ok, 2 checked, 1 failed, 0 blocked~
+A.hs:module A where~data T = M;B.hs:module B where~import A~data T = M|A: checked: no interface~B: checked: no interface~build: 2 ok, 2 checked, 0 failed, 0 blocked~
+A.hs:module A where~data T = C~data T = D~data T = E|A: checked: no interface~A.hs:3:6: error E23: T is defined twice~A.hs:4:6: error E23: T is defined twice~build: 0 ok, 1 checked, 1 failed, 0 blocked~
+A.hs:module A where~data Long = C~data U = C|A: checked: no interface~A.hs:3:10: error E23: C is defined twice~build: 0 ok, 1 checked, 1 failed, 0 blocked~
+A.hs:module A where~data T = U T U~data U = T|A: checked: no interface~build: 1 ok, 1 checked, 0 failed, 0 blocked~
+A.hs:module A where~data T = C;B.hs:module B where~import A;C.hs:module C where~import B~data U = D T|A: checked: no interface~B: checked: no interface~C: checked: no interface~C.hs:3:12: error E21: T is not in scope~build: 2 ok, 3 checked, 1 failed, 0 blocked~
+A.hs:module A where~data T = C;B.hs:module B where~import A~data U = D C|A: checked: no interface~B: checked: no interface~B.hs:3:12: error E21: C is not in scope~build: 1 ok, 2 checked, 1 failed, 0 blocked~
+A.hs:module A where~data T = C;B.hs:module B where~import A~data T = D T~data T = D X|A: checked: no interface~B: checked: no interface~B.hs:3:12: error E22: T is ambiguous~B.hs:4:6: error E23: T is defined twice~B.hs:4:10: error E23: D is defined twice~B.hs:4:12: error E21: X is not in scope~build: 1 ok, 2 checked, 1 failed, 0 blocked~
+B.hs:module B where~import A~data T = D T~data T = D X|B: failed~B.hs:2:8: error E10: module A not found~build: 0 ok, 0 checked, 1 failed, 0 blocked~
+A.hs:module A where~data T = C X;B.hs:module B where~import A;C.hs:module C where~import B;D.hs:module D where~import C|A: checked: no interface~A.hs:2:12: error E21: X is not in scope~B: blocked by A~C: blocked by A~D: blocked by A~build: 0 ok, 1 checked, 1 failed, 3 blocked~
+B.hs:module B where~data T = C X;A.hs:module A where~data T = C X;C.hs:module C where~import B~import A|A: checked: no interface~A.hs:2:12: error E21: X is not in scope~B: checked: no interface~B.hs:2:12: error E21: X is not in scope~C: blocked by A~build: 0 ok, 2 checked, 2 failed, 1 blocked~
+A.hs:module A where;B.hs:module B where~data T = C X;C.hs:module C where~import A~import B|A: checked: no interface~B: checked: no interface~B.hs:2:12: error E21: X is not in scope~C: blocked by B~build: 1 ok, 2 checked, 1 failed, 1 blocked~
+B.hs:module B where~import A;C.hs:module C where~import B|B: failed~B.hs:2:8: error E10: module A not found~C: blocked by B~build: 0 ok, 0 checked, 1 failed, 1 blocked~
+A.hs:module A where~data T = C;B.hs:module B where~import A~data U = D T;C.hs:module C where~import A~data V = E T;D.hs:module D where~import B~import C~data W = F U V|A: checked: no interface~B: checked: no interface~C: checked: no interface~D: checked: no interface~build: 4 ok, 4 checked, 0 failed, 0 blocked~
+A.hs:module A where~data T = C;A.hs:module A where~data T = C X|A: checked: no interface~A.hs:2:12: error E21: X is not in scope~build: 0 ok, 1 checked, 1 failed, 0 blocked~
+";
+
+/// The bytes with a line feed for each tilde.
+fn lines_of(alloc: Global, text: &[u8]) -> Result<Vec<u8>, NoMemory> {
+    let mut lines = Vec::new(alloc);
+    for byte in text {
+        lines.push(if *byte == b'~' { b'\n' } else { *byte })?;
+    }
+    Ok(lines)
+}
+
+/// The two parts before and behind the first such byte; the second is empty where there is none.
+fn cut_at(text: &[u8], mark: u8) -> (&[u8], &[u8]) {
+    match text.iter().position(|byte| *byte == mark) {
+        Some(at) if at < text.len() => (&text[..at], &text[at + 1..]),
+        _ => (text, &[]),
+    }
+}
+
+/// Puts the command that puts a file, given as its path, a colon and its text.
+fn put_file(alloc: Global, script: &mut List<u8>, file: &[u8]) -> Result<(), NoMemory> {
+    let (path, text) = cut_at(file, b':');
+    let mut body = lines_of(alloc, text)?;
+    if !body.is_empty() {
+        body.push(b'\n')?;
+    }
+    script.extend(b"put ")?;
+    script.extend(path)?;
+    script.push(b' ')?;
+    script.push_number(body.len() as u64)?;
+    script.push(b'\n')?;
+    script.extend(&body)?;
+    script.push(b'\n')
+}
+
+/// The script that puts the files of a tree and builds it.
+fn script_of(alloc: Global, tree: &[u8]) -> Result<List<u8>, NoMemory> {
+    let mut script = List::new(alloc);
+    script.extend(b"flags NoImplicitPrelude\n")?;
+    for file in tree.split(|byte| *byte == b';') {
+        put_file(alloc, &mut script, file)?;
+    }
+    script.extend(b"build 1\nquit\n")?;
+    Ok(script)
+}
+
+/// Whether the session that puts and builds the row's tree prints the row's report and answers as it says.
+fn is_answered<R: Threads>(threads: &R, alloc: Global, row: &[u8]) -> Result<bool, Fail> {
+    let (tree, report) = cut_at(row, b'|');
+    let script = script_of(alloc, tree)?;
+    let (status, written) = answer(threads, alloc, script.as_slice(), 1000, &[], &[])?;
+    let report = lines_of(alloc, report)?;
+    let sound = report.ends_with(b" 0 failed, 0 blocked\n");
+    let expected = if sound { Status::Done } else { Status::Failed };
+    Ok(written.as_slice() == report.as_slice() && status == expected)
+}
+
+#[test]
+fn forms_and_imports_are_reported(rt: HostRuntime) -> Result<(), Fail> {
+    for row in FORMS_AND_IMPORTS.as_bytes().split(|byte| *byte == b'\n') {
+        if !row.is_empty() {
+            let alike = is_answered(&rt, rt.alloc(), row)?;
+            assert!(rt; alike, "{row:?}");
+        }
+    }
+    Ok(())
+}
+
+#[test]
+fn scopes_are_reported(rt: HostRuntime) -> Result<(), Fail> {
+    for row in SCOPES.as_bytes().split(|byte| *byte == b'\n') {
+        if !row.is_empty() {
+            let alike = is_answered(&rt, rt.alloc(), row)?;
+            assert!(rt; alike, "{row:?}");
+        }
+    }
+    Ok(())
+}
