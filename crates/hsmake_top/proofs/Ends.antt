@@ -5,20 +5,19 @@ use Rattle.std.specs.Option.{IfSome}
 use Rattle.std.specs.Io.KnownBytes.{Appends}
 use Rattle.mk_base.specs.declared.status.Status.{Status}
 use Rattle.mk_base.specs.declared.status.Status.TheVariants as status
-use Rattle.mk_io.specs.Outside.{AppendsFront}
-use Rattle.hsmake_top.specs.Session.{HasText, Ended, EndedBad}
+use Rattle.hsmake_top.specs.Session.{HasWritten, Ended, EndedBad}
 use Rattle.hsmake_top.specs.Turn.{IsEnd}
 
 module _ (l0 k0 k1 : Option (List ℕ)) (n0 n1 : ℕ) (answer : Status) where
   -- in the middle of a script
-  pub stopped : (answer ≡ status.Done → ⊥) → (answer ≡ status.Failed → ⊥) → (answer ≡ status.BadScript → ⊥) → IfSome l0 (λ bytes. (text : List ℕ) → HasText bytes text → AppendsFront k0 k1 text) → IsEnd l0 k0 k1 n0 n1 answer
-  stopped a b c f = record { done = λ e. absurd (a e); failed = λ e. absurd (b e); bad = λ e. absurd (c e); front = f }
+  pub stopped : (answer ≡ status.Done → ⊥) → (answer ≡ status.Failed → ⊥) → (answer ≡ status.BadScript → ⊥) → IfSome l0 (λ bytes. HasWritten bytes k0 k1) → IsEnd l0 k0 k1 n0 n1 answer
+  stopped a b c f = record { done = λ e. absurd (a e); failed = λ e. absurd (b e); bad = λ e. absurd (c e); begun = f }
 
   -- at a bad place
   pub ended_bad : (answer ≡ status.BadScript) ⊎ ((answer ≡ status.WriteFault) ⊎ (answer ≡ status.NoMemory))
       → (answer ≡ status.BadScript → IfSome l0 (λ bytes. (text : List ℕ) × EndedBad bytes n0 n1 text × Appends k0 k1 text))
-      → IfSome l0 (λ bytes. (text : List ℕ) → HasText bytes text → AppendsFront k0 k1 text) → IsEnd l0 k0 k1 n0 n1 answer
-  ended_bad which b f = record { done = λ e. absurd (not_done which e); failed = λ e. absurd (not_failed which e); bad = b; front = f }
+      → IfSome l0 (λ bytes. HasWritten bytes k0 k1) → IsEnd l0 k0 k1 n0 n1 answer
+  ended_bad which b f = record { done = λ e. absurd (not_done which e); failed = λ e. absurd (not_failed which e); bad = b; begun = f }
     where
       not_done : (answer ≡ status.BadScript) ⊎ ((answer ≡ status.WriteFault) ⊎ (answer ≡ status.NoMemory)) → answer ≡ status.Done → ⊥
       not_done (inl a) e = cc
@@ -33,12 +32,12 @@ module _ (l0 k0 k1 : Option (List ℕ)) (n0 n1 : ℕ) (answer : Status) where
   -- at quit
   pub ended_good : (failed : Bool) → (answer ≡ status.Done) ⊎ (answer ≡ status.Failed) → (answer ≡ status.Done → failed ≡ false) → (answer ≡ status.Failed → failed ≡ true)
       → IfSome l0 (λ bytes. (text : List ℕ) × Ended bytes failed n0 n1 text × Appends k0 k1 text)
-      → IfSome l0 (λ bytes. (text : List ℕ) → HasText bytes text → AppendsFront k0 k1 text) → IsEnd l0 k0 k1 n0 n1 answer
+      → IfSome l0 (λ bytes. HasWritten bytes k0 k1) → IsEnd l0 k0 k1 n0 n1 answer
   ended_good failed which a b d f = record {
     done = λ e. subst (λ t. IfSome l0 (λ bytes. (text : List ℕ) × Ended bytes t n0 n1 text × Appends k0 k1 text)) (a e) d;
     failed = λ e. subst (λ t. IfSome l0 (λ bytes. (text : List ℕ) × Ended bytes t n0 n1 text × Appends k0 k1 text)) (b e) d;
     bad = λ e. absurd (not_bad which e);
-    front = f;
+    begun = f;
   }
     where
       not_bad : (answer ≡ status.Done) ⊎ (answer ≡ status.Failed) → answer ≡ status.BadScript → ⊥

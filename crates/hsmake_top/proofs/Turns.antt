@@ -11,11 +11,20 @@ use Rattle.mk_io.proofs.Pieces.{joined, read_on, consumed}
 use Rattle.session_lang.specs.Spelling.{Said, Quit, spelling}
 use Rattle.session_lang.specs.Script.{limit, IsPlain, IsBadScript, spellings}
 use Rattle.session_lang.proofs.Scripts.{all_push, begins_so, length_more, not_bad, one_more, place as places_are_one}
-use Rattle.hsmake_top.specs.Session.{State, opening, after, state_after, replies, reply_of, any_fails, fails, checks, bad_line, HasText, Ended, EndedBad}
+use Rattle.hsmake_top.specs.Session.{State, opening, after, state_after, replies, reply_of, any_fails, fails, checks, bad_line, HasText, HasWritten, Ended, EndedBad}
 use Rattle.hsmake_top.specs.Turn.{SoFar}
 use Rattle.hsmake_top.specs.Ahead.{IsBadAhead, window}
 use Rattle.hsmake_top.proofs.Folds.{state_more, replies_more, replies_on, fails_more, checks_more}
 use Rattle.hsmake_top.proofs.Windows.{windowed}
+
+nothing_written : (k : Option (List ℕ)) → Appends k k []
+nothing_written None = tt
+nothing_written (Some xs) = sym (append-nil xs)
+
+-- where nothing was read and written
+pub nothing_begun : (l k : Option (List ℕ)) → IfSome l (λ bytes. HasWritten bytes k k)
+nothing_begun None k = tt
+nothing_begun (Some bytes) k = record { commands = []; plain = tt; rest = take limit bytes; begins = refl; text = []; text_is = inl refl; written = (0, nothing_written k) }
 
 -- before the first command
 pub nothing_done : (left taken : Option (List ℕ)) (pending : List ℕ) (before : ℕ) (state : State) (checks : ℕ) → pending ≡ [] → before ≡ 0 → state ≡ opening → SoFar left left taken taken pending before state false checks checks
@@ -33,10 +42,6 @@ nothing_done left taken pending before state checks p b s = record {
     nothing_read : (l : Option (List ℕ)) → Consumes l l []
     nothing_read None = tt
     nothing_read (Some xs) = refl
-
-    nothing_written : (k : Option (List ℕ)) → Appends k k []
-    nothing_written None = tt
-    nothing_written (Some xs) = sym (append-nil xs)
 
 pub if_some : {X : Type 0} (o : Option X) (P Q : X → Type 0) → ((x : X) → P x → Q x) → IfSome o P → IfSome o Q
 if_some None P Q f h = tt
@@ -126,24 +131,52 @@ text_after bytes cs x p e text h = elim h [
       )
 ]
 
+-- what was written is a front of every text that the input may have
+pub front_of_any : (bytes : List ℕ) (k0 k2 : Option (List ℕ)) → HasWritten bytes k0 k2 → (text : List ℕ) → HasText bytes text → AppendsFront k0 k2 text
+front_of_any bytes k0 k2 w text t = elim w.text_is [
+  | inl e ↦
+      let m = text_after bytes w.commands w.rest w.plain w.begins text t in
+      let part : List ℕ = take w.written.0 w.text in
+      let other : List ℕ = drop w.written.0 w.text in
+      let is : text ≡ part ++ (other ++ m.0) = m.1 ∙ ap (λ x. x ++ m.0) (sym e ∙ sym (take-append-drop w.written.0 w.text)) ∙ append_assoc part other m.0 in
+      front_of k0 k2 text part (other ++ m.0) is w.written.1
+  | inr b ↦ bad_is bytes k0 k2 w b.0 b.1 b.2 text t
+]
+  where
+    bad_is : (bytes : List ℕ) (k0 k2 : Option (List ℕ)) (w : HasWritten bytes k0 k2) (at : ℕ) → IsBadScript bytes w.commands at → w.text ≡ replies opening w.commands ++ bad_line at → (text : List ℕ) → HasText bytes text → AppendsFront k0 k2 text
+    bad_is bytes k0 k2 w at b e text t = elim t [
+      | inl g ↦ absurd (not_bad w.commands g.commands b.rest g.script.1.0 b.plain g.script.0 b.none (sym b.front ∙ g.script.1.1))
+      | inr g ↦
+          let same = places_are_one bytes w.commands g.commands at g.at b g.bad in
+          let is : w.text ≡ text = e ∙ ap (λ n. replies opening w.commands ++ bad_line n) same.1 ∙ ap (λ cs. replies opening cs ++ bad_line g.at) same.0 ∙ sym g.text_is in
+          subst (AppendsFront k0 k2) is w.written
+    ]
+
 front_at : (l0 l1 k0 k2 : Option (List ℕ)) (cs : List Said) (x a b : List ℕ) → AllByRecursion IsPlain cs → length (spellings cs) ≤ limit → Consumes l0 l1 (spellings cs ++ x) → replies opening cs ≡ a ++ b → Appends k0 k2 a
-    → IfSome l0 (λ bytes. (text : List ℕ) → HasText bytes text → AppendsFront k0 k2 text)
+    → IfSome l0 (λ bytes. HasWritten bytes k0 k2)
 front_at l0 l1 k0 k2 cs x a b p fits r e w =
-    if_some l0 (λ bytes. (rest : List ℕ) × (bytes ≡ (spellings cs ++ x) ++ rest) × (l1 ≡ Some rest)) (λ bytes. (text : List ℕ) → HasText bytes text → AppendsFront k0 k2 text)
-    (λ bytes h text t.
+    if_some l0 (λ bytes. (rest : List ℕ) × (bytes ≡ (spellings cs ++ x) ++ rest) × (l1 ≡ Some rest)) (λ bytes. HasWritten bytes k0 k2)
+    (λ bytes h.
     let n : ℕ = length (spellings cs) in
-    let m = text_after bytes cs (window n (x ++ h.0)) p (behind cs bytes (x ++ h.0) n refl fits (h.1 ∙ append_assoc (spellings cs) x h.0)) text t in
-    front_of k0 k2 text a (b ++ m.0) (m.1 ∙ ap (λ y. y ++ m.0) e ∙ append_assoc a b m.0) w)
+    record {
+      commands = cs;
+      plain = p;
+      rest = window n (x ++ h.0);
+      begins = behind cs bytes (x ++ h.0) n refl fits (h.1 ∙ append_assoc (spellings cs) x h.0);
+      text = replies opening cs;
+      text_is = inl refl;
+      written = front_of k0 k2 (replies opening cs) a b e w;
+    })
     (consumed l0 l1 (spellings cs ++ x) r)
 
 module _ (l0 l1 k0 k1 : Option (List ℕ)) (pending : List ℕ) (before : ℕ) (state : State) (failed : Bool) (n0 n1 : ℕ) (s : SoFar l0 l1 k0 k1 pending before state failed n0 n1) (fits : before ≤ limit) where
-  -- what was written is a front of every text that the input may have
-  pub front : IfSome l0 (λ bytes. (text : List ℕ) → HasText bytes text → AppendsFront k0 k1 text)
+  -- what was written is a front of the replies to the commands so far
+  pub front : IfSome l0 (λ bytes. HasWritten bytes k0 k1)
   front = front_at l0 l1 k0 k1 s.commands pending (replies opening s.commands) [] s.plain (omega (arith, fits, s.before_is)) s.read (sym (append-nil (replies opening s.commands))) s.written
 
   -- also where a reply was cut short
   pub front_cut : (k2 : Option (List ℕ)) (text rest : List ℕ) (c : Said) → IsPlain c → text ≡ reply_of state c → pending ≡ spelling c ++ rest → before + length (spelling c) ≤ limit → AppendsFront k1 k2 text
-      → IfSome l0 (λ bytes. (text : List ℕ) → HasText bytes text → AppendsFront k0 k2 text)
+      → IfSome l0 (λ bytes. HasWritten bytes k0 k2)
   front_cut k2 text rest c p t f room w =
       let cs : List Said = s.commands ++ c ∷ [] in
       let part : List ℕ = take w.0 text in
@@ -184,17 +217,20 @@ module _ (l0 l1 k0 k1 : Option (List ℕ)) (pending : List ℕ) (before : ℕ) (
         ))
         is_bad
 
-    pub bad_front : (k2 : Option (List ℕ)) → AppendsFront k1 k2 (bad_line at) → IfSome l0 (λ bytes. (text : List ℕ) → HasText bytes text → AppendsFront k0 k2 text)
+    pub bad_front : (k2 : Option (List ℕ)) → AppendsFront k1 k2 (bad_line at) → IfSome l0 (λ bytes. HasWritten bytes k0 k2)
     bad_front k2 w =
-        if_some l0 (λ bytes. IsBadScript bytes s.commands at) (λ bytes. (text : List ℕ) → HasText bytes text → AppendsFront k0 k2 text)
-        (λ bytes b text t. elim t [
-          | inl g ↦ absurd (not_bad s.commands g.commands b.rest g.script.1.0 b.plain g.script.0 b.none (sym b.front ∙ g.script.1.1))
-          | inr g ↦
-              let same = places_are_one bytes s.commands g.commands at g.at b g.bad in
-              let part : List ℕ = take w.0 (bad_line at) in
-              let is : text ≡ (replies opening s.commands ++ part) ++ drop w.0 (bad_line at) =
-              g.text_is ∙ ap (λ cs. replies opening cs ++ bad_line g.at) (sym same.0) ∙ ap (λ n. replies opening s.commands ++ bad_line n) (sym same.1)
-              ∙ ap (λ x. replies opening s.commands ++ x) (sym (take-append-drop w.0 (bad_line at))) ∙ sym (append_assoc (replies opening s.commands) part (drop w.0 (bad_line at))) in
-              front_of k0 k2 text (replies opening s.commands ++ part) (drop w.0 (bad_line at)) is (joined k0 k1 k2 (replies opening s.commands) part s.written w.1)
-        ])
+        if_some l0 (λ bytes. IsBadScript bytes s.commands at) (λ bytes. HasWritten bytes k0 k2)
+        (λ bytes b.
+        let part : List ℕ = take w.0 (bad_line at) in
+        let is : replies opening s.commands ++ bad_line at ≡ (replies opening s.commands ++ part) ++ drop w.0 (bad_line at) =
+        ap (λ x. replies opening s.commands ++ x) (sym (take-append-drop w.0 (bad_line at))) ∙ sym (append_assoc (replies opening s.commands) part (drop w.0 (bad_line at))) in
+        record {
+          commands = s.commands;
+          plain = s.plain;
+          rest = b.rest;
+          begins = b.front;
+          text = replies opening s.commands ++ bad_line at;
+          text_is = inr (at, b, refl);
+          written = front_of k0 k2 (replies opening s.commands ++ bad_line at) (replies opening s.commands ++ part) (drop w.0 (bad_line at)) is (joined k0 k1 k2 (replies opening s.commands) part s.written w.1);
+        })
         is_bad

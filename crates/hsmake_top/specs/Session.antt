@@ -1,16 +1,18 @@
 -- A session: what each command does to the tree and the flags, and what it prints.
-use Rattle.std.specs.Prelude.{◌≡◌, ◌⊎◌, ℕ, ◌+◌, Bool, true, false, ◌||◌, not, List, [], ◌∷◌, ◌++◌, map, codes, if◌then◌else◌}
-use Rattle.std.specs.List.{list_any}
+use Rattle.std.specs.Prelude.{◌≡◌, ◌⊎◌, ℕ, ◌+◌, Bool, true, false, ◌||◌, not, List, [], ◌∷◌, ◌++◌, map, take, codes, if◌then◌else◌}
+use Rattle.std.specs.declared.option.Option.{Option}
+use Rattle.std.specs.List.{list_any, AllByRecursion}
 use Rattle.std.specs.Fmt.{decimal}
 use Rattle.mk_base.specs.declared.name.Node.{Node}
 use Rattle.mk_base.specs.declared.diag.Diag.{Diag}
 use Rattle.mk_io.specs.declared.file.File.{File}
+use Rattle.mk_io.specs.Outside.{AppendsFront}
 use Rattle.face_model.specs.declared.result.Reason.{Reason}
 use Rattle.build_theory.specs.Build.{How, Current, Checked, Graph, Behind, Outcome, Failed, is_sound}
 use Rattle.report.specs.Report as report
 use Rattle.report.specs.Report.{Row, Standing, reason_text, report_of, line}
 use Rattle.session_lang.specs.Spelling.{Said, Put, Flags, Build, Quit}
-use Rattle.session_lang.specs.Script.{IsScript, IsBadScript}
+use Rattle.session_lang.specs.Script.{limit, IsPlain, IsScript, IsBadScript, spellings}
 use Rattle.plain_form.specs.Words.{same_text}
 use Rattle.plain_scope.specs.declared.scope.Content.{Content}
 use Rattle.plain_build.specs.declared.build.PlainBuild.{PlainBuild}
@@ -107,6 +109,17 @@ pub record HasBadText (input text : List ℕ) : Type 0 where
 
 abbrev pub HasText : List ℕ → List ℕ → Type 0
 HasText input text = HasGoodText input text ⊎ HasBadText input text
+
+-- What an output took of a session, however that ended: a front of the replies to some commands with which the input
+-- begins, or, where the script is bad behind these, a front of the replies and the last line.
+pub record HasWritten (bytes : List ℕ) (taken_then taken_now : Option (List ℕ)) : Type 0 where
+  pub commands : List Said
+  pub plain : AllByRecursion IsPlain commands
+  pub rest : List ℕ
+  pub begins : take limit bytes ≡ spellings commands ++ rest
+  pub text : List ℕ
+  pub text_is : (text ≡ replies opening commands) ⊎ ((at : ℕ) × IsBadScript bytes commands at × (text ≡ replies opening commands ++ bad_line at))
+  pub written : AppendsFront taken_then taken_now text
 
 -- the one word `session`
 abbrev pub IsSession : List (List ℕ) → Type 0

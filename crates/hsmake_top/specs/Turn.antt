@@ -6,11 +6,10 @@ use Rattle.std.specs.List.{AllByRecursion}
 use Rattle.std.specs.Io.KnownBytes.{Appends, Consumes}
 use Rattle.mk_base.specs.declared.status.Status.{Status}
 use Rattle.mk_base.specs.declared.status.Status.TheVariants as status
-use Rattle.mk_io.specs.Outside.{AppendsFront}
 use Rattle.session_lang.specs.Spelling.{Said}
 use Rattle.session_lang.specs.Script.{IsPlain, spellings}
 use Rattle.hsmake_top.specs.declared.turn.Progress.{Progress}
-use Rattle.hsmake_top.specs.Session.{State, opening, state_after, replies, any_fails, all_checks, HasText, Ended, EndedBad}
+use Rattle.hsmake_top.specs.Session.{State, opening, state_after, replies, any_fails, all_checks, HasWritten, Ended, EndedBad}
 use Rattle.hsmake_top.specs.Ahead.{IsWithin, pending, place}
 use Rattle.hsmake_top.specs.Kept.{IsKept, state_of}
 
@@ -39,7 +38,7 @@ pub record IsEnd (left taken_then taken_now : Option (List ℕ)) (checks_then ch
   pub done : answer ≡ status.Done → IfSome left (λ bytes. (text : List ℕ) × Ended bytes false checks_then checks_now text × Appends taken_then taken_now text)
   pub failed : answer ≡ status.Failed → IfSome left (λ bytes. (text : List ℕ) × Ended bytes true checks_then checks_now text × Appends taken_then taken_now text)
   pub bad : answer ≡ status.BadScript → IfSome left (λ bytes. (text : List ℕ) × EndedBad bytes checks_then checks_now text × Appends taken_then taken_now text)
-  pub front : IfSome left (λ bytes. (text : List ℕ) → HasText bytes text → AppendsFront taken_then taken_now text)
+  pub begun : IfSome left (λ bytes. HasWritten bytes taken_then taken_now)
 
 -- the answers to a whole script
 abbrev pub IsWhole : Status → Type 0

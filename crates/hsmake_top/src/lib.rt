@@ -3,11 +3,11 @@
 
 #[cfg(test)]
 mod rows;
-#[cfg(test)]
-mod sessions;
 pub mod run;
 mod script;
 mod session;
+#[cfg(test)]
+mod sessions;
 #[cfg(test)]
 mod tests;
 mod turn;

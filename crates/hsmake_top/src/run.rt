@@ -2,7 +2,7 @@
 ghost use Rattle.std.specs.Prelude.{◌≡◌, ◌⊎◌, ◌↔◌, List, ℕ, map, true, false, string_bytes, IfSome, IsTrue};
 ghost use Rattle.std.specs.Io.KnownBytes.{Appends};
 ghost use Rattle.mk_io.specs.Outside.{AppendsFront, Rose};
-ghost use Rattle.hsmake_top.specs.Session.{Ended, EndedBad, HasText, IsSession};
+ghost use Rattle.hsmake_top.specs.Session.{Ended, EndedBad, HasText, HasWritten, IsSession};
 ghost use Rattle.hsmake_top.specs.Turn.{HasDone, IsEnd, IsProgress, IsWhole};
 ghost use Rattle.std.specs.declared.option.Option.{Option};
 ghost use Rattle.hsmake_top.specs.Usage.{usage_line};
@@ -92,7 +92,9 @@ pub fn run_alone<S: Source, K: Sink, L: Ledger>(
     ensures failed { result ≡ Status.Failed → IfSome (S.left input.old) (λ bytes. (text : List ℕ) × Ended bytes true steps.old steps.new text × Appends (K.taken output.old) (K.taken output.new) text) }
     // BadScript: the input is a bad script, and the output took the replies before the bad place and the line that names it.
     ensures bad { result ≡ Status.BadScript → IfSome (S.left input.old) (λ bytes. (text : List ℕ) × EndedBad bytes steps.old steps.new text × Appends (K.taken output.old) (K.taken output.new) text) }
-    // Whatever the answer, the output took a front of the text of the input.
+    // Whatever the answer, the input begins with some commands, and the output took a front of their replies, or of these
+    // and the last line where the script is bad behind them; so it took a front of the text of the input.
+    ensures begun { IsSession (map string_bytes words.now) → IfSome (S.left input.old) (λ bytes. HasWritten bytes (K.taken output.old) (K.taken output.new)) }
     ensures front { IsSession (map string_bytes words.now) → IfSome (S.left input.old) (λ bytes. (text : List ℕ) → HasText bytes text → AppendsFront (K.taken output.old) (K.taken output.new) text) }
     // Other words are answered by the usage line, and the input isn't looked at.
     ensures usage { result ≡ Status.Usage → IsSession (map string_bytes words.now) → ⊥ }

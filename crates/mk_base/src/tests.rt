@@ -140,10 +140,16 @@ fn characters_have_classes(rt: HostRuntime) {
         (CharClass::Small, "az_\u{e9}\u{df}\u{3b1}"),
         (CharClass::Large, "AZ\u{c9}\u{3a3}\u{1c5}"),
         (CharClass::Digit, "09\u{663}"),
-        (CharClass::Symbol, "!#$%&*+./<=>?@\\^|-~:\u{20ac}\u{2192}\u{ab}\u{203f}"),
+        (
+            CharClass::Symbol,
+            "!#$%&*+./<=>?@\\^|-~:\u{20ac}\u{2192}\u{ab}\u{203f}",
+        ),
         (CharClass::Special, "(),;[]`{}"),
         (CharClass::White, "\t\n\u{b}\u{c}\r \u{a0}\u{2003}\u{85}"),
-        (CharClass::Other, "\"'\0\u{1f}\u{7f}\u{3042}\u{aa}\u{2b0}\u{bd}\u{e000}"),
+        (
+            CharClass::Other,
+            "\"'\0\u{1f}\u{7f}\u{3042}\u{aa}\u{2b0}\u{bd}\u{e000}",
+        ),
     ];
     for (class, characters) in rows {
         for character in characters.chars() {

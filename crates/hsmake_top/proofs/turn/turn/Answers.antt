@@ -1,11 +1,10 @@
-use Rattle.std.proofs.Common.{◌≡◌, ◌≤◌, ◌+◌, ◌∙◌, ◌++◌, ◌||◌, drop, length, refl, ap, subst, arith, length-append, length-drop}
+use Rattle.std.proofs.Common.{◌≡◌, ◌≤◌, ◌+◌, ◌∙◌, ◌++◌, length, refl, ap, subst, arith, length-append, length-drop}
 use Rattle.mk_base.specs.declared.status.Status.TheVariants as status
 use Rattle.session_lang.specs.Meant.{said}
 use Rattle.session_lang.specs.Script.{limit, IsPlain}
 use Rattle.session_lang.specs.Spelling.{Said, Quit, spelling}
-use Rattle.std.specs.Io.KnownBytes.{Appends}
 use Rattle.mk_io.specs.Outside.{AppendsFront}
-use Rattle.hsmake_top.specs.Session.{after, fails, reply_of, checks as checks_of}
+use Rattle.hsmake_top.specs.Session.{reply_of}
 use Rattle.hsmake_top.specs.Ahead.{IsNext, pending, place}
 use Rattle.hsmake_top.specs.Kept.{state_of}
 use Rattle.hsmake_top.proofs.Turns.{front, front_cut, left_behind, reads, replied_as, done, bad_done, bad_front}
