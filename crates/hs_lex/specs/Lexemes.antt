@@ -1,0 +1,145 @@
+-- White space, comments and lexemes.
+use Rattle.std.specs.Prelude.{◌≡◌, ◌≢◌, ◌⊎◌, ◌≤◌, ◌+◌, ◌-◌, ℕ, Bool, true, false, not, ◌==◌, ◌||◌, ◌&&◌, List, [], ◌∷◌, ◌++◌, length, if◌then◌else◌, codes}
+use Rattle.std.specs.List.{flat_map, AllByRecursion}
+use Rattle.hs_lex.specs.declared.class.Class.{Class}
+use Rattle.hs_lex.specs.declared.class.Class.TheVariants as class
+use Rattle.hs_lex.specs.declared.class.Part.{Part}
+use Rattle.hs_lex.specs.declared.class.Part.TheVariants as part
+use Rattle.hs_lex.specs.Classes.{class_of, in_part}
+use Rattle.hs_lex.specs.Reading.{AllIn, Ends, Nothing}
+
+abbrev pub BeginsWith : Class → List ℕ → Type 0
+BeginsWith k [] = ⊥
+BeginsWith k (c ∷ cs) = class_of c ≡ k
+
+-- one character of the class
+abbrev pub IsOne : Class → List ℕ → Type 0
+IsOne k [] = ⊥
+IsOne k (c ∷ []) = class_of c ≡ k
+IsOne k (c ∷ d ∷ cs) = ⊥
+
+-- all characters of the part, as many as stand there
+abbrev pub IsWhole : Part → List ℕ → List ℕ → Type 0
+IsWhole p l rest = AllIn p l × Ends p rest
+
+abbrev pub IsDashes : List ℕ → Type 0
+IsDashes l = AllIn part.Dash l × (2 ≤ length l)
+
+abbrev pub IsName : Class → List ℕ → List ℕ → Type 0
+IsName k l rest = BeginsWith k l × IsWhole part.Name l rest
+
+abbrev pub IsOperator : List ℕ → List ℕ → Type 0
+IsOperator l rest = BeginsWith class.Symbol l × IsWhole part.Symbol l rest × (IsDashes l → ⊥)
+
+-- dashes with no symbol behind them, and the rest of the line
+abbrev pub EndsLine : List ℕ → Type 0
+EndsLine [] = Unit {0}
+EndsLine (c ∷ cs) = (c == 10 || (c == 12 || c == 13)) ≡ true
+
+abbrev pub IsLineComment : List ℕ → List ℕ → Type 0
+IsLineComment l rest = (dashes line : List ℕ) × (l ≡ dashes ++ line) × IsDashes dashes × Ends part.Symbol (line ++ rest) × AllIn part.Comment line × EndsLine rest
+
+-- The text closes so many open comments, at its end and not before: {- opens one more, -} closes one, and any other
+-- character stands for itself.
+abbrev pub is_nil : List ℕ → Bool
+is_nil [] = true
+is_nil (c ∷ cs) = false
+
+unfoldable pub closes : ℕ → List ℕ → Bool
+closes n [] = false
+closes n (c ∷ []) = false
+closes n (c ∷ d ∷ cs) =
+    if c == 123 && d == 45 then closes (n + 1) cs
+    else if c == 45 && d == 125 then (if n == 1 then is_nil cs else closes (n - 1) cs)
+    else not (c == 0x110000) && closes n (d ∷ cs)
+
+abbrev pub IsNestedComment : List ℕ → Type 0
+IsNestedComment [] = ⊥
+IsNestedComment (a ∷ []) = ⊥
+IsNestedComment (a ∷ b ∷ cs) = (a ≡ 123) × (b ≡ 45) × (closes 1 cs ≡ true)
+
+abbrev pub IsSpecial : List ℕ → List ℕ → Type 0
+IsSpecial l rest = IsOne class.Special l × (l ≡ 123 ∷ [] → Ends part.Dash rest)
+
+-- a string: quotes, and between them characters, escapes and gaps
+pub data Piece : Type 0 where
+  Plain : ℕ → Piece
+  Escape : ℕ → Piece
+  Gap : List ℕ → Piece
+
+abbrev pub piece : Piece → List ℕ
+piece (Plain c) = c ∷ []
+piece (Escape c) = 92 ∷ c ∷ []
+piece (Gap blanks) = 92 ∷ blanks ++ 92 ∷ []
+
+-- n t " \ &
+abbrev pub is_escape : ℕ → Bool
+is_escape c = c == 110 || c == 116 || c == 34 || c == 92 || c == 38
+
+abbrev pub IsPiece : Piece → Type 0
+IsPiece (Plain c) = (in_part part.Comment c ≡ true) × (c ≢ 9) × (c ≢ 34) × (c ≢ 92)
+IsPiece (Escape c) = is_escape c ≡ true
+IsPiece (Gap blanks) = BeginsWith class.White blanks × AllIn part.White blanks
+
+abbrev pub IsPieceText : List ℕ → Type 0
+IsPieceText l = (p : Piece) × IsPiece p × (l ≡ piece p)
+
+-- the part of a gap behind its first backslash
+abbrev pub IsGapTail : List ℕ → Type 0
+IsGapTail l = (blanks : List ℕ) × IsPiece (Gap blanks) × (l ≡ blanks ++ 92 ∷ [])
+
+-- as many pieces as stand there
+abbrev pub IsPieces : List ℕ → List ℕ → Type 0
+IsPieces cs rest = (ps : List Piece) × AllByRecursion IsPiece ps × (cs ≡ flat_map piece ps ++ rest) × Nothing (λ l r. IsPieceText l) rest
+
+abbrev pub IsText : List ℕ → Type 0
+IsText l = (ps : List Piece) × AllByRecursion IsPiece ps × (l ≡ 34 ∷ flat_map piece ps ++ 34 ∷ [])
+
+-- a number: digits, a fraction or none, an exponent or none
+abbrev pub IsDigits : List ℕ → Type 0
+IsDigits [] = ⊥
+IsDigits (c ∷ cs) = AllIn part.Digit (c ∷ cs)
+
+abbrev pub IsFraction : List ℕ → Type 0
+IsFraction [] = Unit {0}
+IsFraction (c ∷ cs) = (c ≡ 46) × IsDigits cs
+
+abbrev pub is_sign : ℕ → Bool
+is_sign c = c == 43 || c == 45
+
+abbrev pub is_e : ℕ → Bool
+is_e c = c == 69 || c == 101
+
+abbrev pub unsigned : List ℕ → List ℕ
+unsigned [] = []
+unsigned (c ∷ cs) = if is_sign c then cs else c ∷ cs
+
+abbrev pub IsExponent : List ℕ → Type 0
+IsExponent [] = Unit {0}
+IsExponent (c ∷ cs) = (is_e c ≡ true) × IsDigits (unsigned cs)
+
+abbrev pub Then : (List ℕ → Type 0) → (List ℕ → Type 0) → List ℕ → Type 0
+Then L M l = (a b : List ℕ) × (l ≡ a ++ b) × L a × M b
+
+abbrev pub IsNumber : List ℕ → Type 0
+IsNumber = Then IsDigits (Then IsFraction IsExponent)
+
+-- the reserved words and operators
+abbrev pub IsReserved : List ℕ → Type 0
+IsReserved l = (l ≡ codes "where") ⊎ ((l ≡ codes "let") ⊎ ((l ≡ codes "of") ⊎ ((l ≡ codes "..") ⊎ ((l ≡ codes "=") ⊎ (l ≡ codes "->")))))
+
+-- a small name or an operator, taken whole and not reserved
+abbrev pub IsPlain : List ℕ → List ℕ → Type 0
+IsPlain l rest = (IsName class.Small l rest ⊎ IsOperator l rest) × (IsReserved l → ⊥)
+
+-- so many times a dot and a conid, and perhaps a dot and a plain last part
+abbrev pub IsTail : List (List ℕ) → List ℕ → List ℕ → Type 0
+IsTail [] l rest = (l ≡ []) ⊎ ((m : List ℕ) × (l ≡ 46 ∷ m) × IsPlain m rest)
+IsTail (q ∷ qs) l rest = (m : List ℕ) × (l ≡ 46 ∷ (q ++ m)) × IsName class.Large q (m ++ rest) × IsTail qs m rest
+
+abbrev pub IsAnyTail : List ℕ → List ℕ → Type 0
+IsAnyTail l rest = (qs : List (List ℕ)) × IsTail qs l rest
+
+-- a conid and what may stand behind it
+abbrev pub IsLargeName : List ℕ → List ℕ → Type 0
+IsLargeName l rest = (q m : List ℕ) × (l ≡ q ++ m) × IsName class.Large q (m ++ rest) × IsAnyTail m rest

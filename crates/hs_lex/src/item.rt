@@ -1,0 +1,90 @@
+//! What a source is made of.
+ghost use Rattle.std.specs.Prelude.{◌≡◌, List, ℕ, MatchOption};
+ghost use Rattle.source_text.specs.Characters.{characters};
+ghost use Rattle.hs_lex.specs.Items.{IsItem, NoItem, is_lexeme};
+
+use crate::class::{Class, class_of};
+use crate::name::{large_name_at, small_at};
+use crate::nested::nested_comment_at;
+use crate::number::number_at;
+use crate::quoted::text_at;
+use crate::sign::{line_comment_at, operator_at, special_at};
+use source_text::character::next_char;
+
+#[derive(Clone, Copy, Debug, PartialEq, Eq)]
+pub enum Kind {
+    Blank,
+    LineComment,
+    NestedComment,
+    SmallName,
+    LargeName,
+    Operator,
+    Number,
+    Quoted,
+    Special,
+}
+
+/// A lexeme: from the byte `start` to the byte `end`.
+#[derive(Clone, Copy, Debug, PartialEq, Eq)]
+pub struct Token {
+    pub kind: Kind,
+    pub start: usize,
+    pub end: usize,
+}
+
+pub fn is_lexeme(kind: Kind) -> bool
+    ensures { result ≡ is_lexeme kind }
+{
+    match kind {
+        Kind::Blank | Kind::LineComment | Kind::NestedComment => false,
+        _ => true,
+    }
+}
+
+/// What stands at the front: white space, a comment or a lexeme, and what follows it.
+pub fn item_at(bytes: &[u8]) -> Option<(Kind, &[u8])>
+    ensures { MatchOption result (NoItem (characters bytes.now)) (λ p. (text : List ℕ) × IsItem p.0 text (characters bytes.now) (characters p.1.now)) }
+{
+    let Some((c, after)) = next_char(bytes) else {
+        return None;
+    };
+    match class_of(c) {
+        Class::White => Some((Kind::Blank, after)),
+        Class::Small => match small_at(bytes) {
+            Some(rest) => Some((Kind::SmallName, rest)),
+            None => None,
+        },
+        Class::Large => match large_name_at(bytes) {
+            Some(rest) => Some((Kind::LargeName, rest)),
+            None => None,
+        },
+        Class::Digit => match number_at(bytes) {
+            Some(rest) => Some((Kind::Number, rest)),
+            None => None,
+        },
+        Class::Symbol => {
+            if let Some(rest) = line_comment_at(bytes) {
+                return Some((Kind::LineComment, rest));
+            }
+            match operator_at(bytes) {
+                Some(rest) => Some((Kind::Operator, rest)),
+                None => None,
+            }
+        }
+        Class::Special => {
+            if let Some(rest) = nested_comment_at(bytes) {
+                return Some((Kind::NestedComment, rest));
+            }
+            match special_at(bytes) {
+                Some(rest) => Some((Kind::Special, rest)),
+                None => None,
+            }
+        }
+        Class::Quote => match text_at(bytes) {
+            Some(rest) => Some((Kind::Quoted, rest)),
+            None => None,
+        },
+        Class::Tick => None,
+        Class::Other => None,
+    }
+}
