@@ -119,7 +119,7 @@ drop_span (c ∷ l) from rest e = ⊎_elim
     (first from (filled from (l ++ rest) c e))
 
 -- what spells a character reads as it, whatever follows
-reads_first : (c : ℕ) (rest : List ℕ) → IsScalar c → 0 < length (encode_utf8 c) → characters (encode_utf8 c ++ rest) ≡ c ∷ characters rest
+pub reads_first : (c : ℕ) (rest : List ℕ) → IsScalar c → 0 < length (encode_utf8 c) → characters (encode_utf8 c ++ rest) ≡ c ∷ characters rest
 reads_first c rest h n =
     let w = encode_utf8 c in
     let d = decoded-encode c rest h in
