@@ -1,9 +1,10 @@
 -- Nested comments.
-use Rattle.std.specs.Prelude.{◌==◌, ◌&&◌, not}
+use Rattle.std.specs.Prelude.{◌==◌, ◌&&◌}
 use Rattle.std.proofs.Common.{◌≡◌, ⊎_elim, ℕ, ◌+◌, ◌-◌, ◌≤◌, true, false, List, [], ◌∷◌, ◌++◌, length, refl, ap, sym, ◌∙◌, subst, arith, append_assoc, length-append}
 use Rattle.std.proofs.lemmas.List.{append_cancel_left}
 use Rattle.std.proofs.lemmas.Bool.{false≢true, cond-false, eqb-true, cases_Bool}
-use Rattle.source_text.specs.Characters.{no_character}
+use Rattle.mk_base.specs.Classes.{class_of as class_of_char}
+use Rattle.hs_lex.specs.Classes.{class_of, is_inside}
 use Rattle.hs_lex.specs.Reading.{IsLongest, Nothing}
 use Rattle.hs_lex.specs.Lexemes.{closes, is_nil, IsNestedComment}
 use Rattle.hs_lex.specs.Signs.{is_opening, IsOther}
@@ -25,7 +26,7 @@ closes_one n m h = cond-false _ _ _ h
 
 goes_on : (n c d : ℕ) (m : List ℕ) → IsOther c d → closes n (c ∷ d ∷ m) ≡ closes n (d ∷ m)
 unfolding closes
-goes_on n c d m h = cond-false _ _ _ h.0 ∙ cond-false _ _ _ h.1 ∙ ap (λ b. not b && closes n (d ∷ m)) (differs c no_character h.2)
+goes_on n c d m h = cond-false _ _ _ h.0 ∙ cond-false _ _ _ h.1 ∙ ap (λ b. b && closes n (d ∷ m)) h.2
 
 -- what closes has two characters, the first of which is one
 closes_two : (n : ℕ) (m : List ℕ) → closes n m ≡ true → (c d : ℕ) × (l : List ℕ) × (m ≡ c ∷ d ∷ l)
@@ -34,9 +35,24 @@ closes_two n [] h = absurd (false≢true h)
 closes_two n (c ∷ []) h = absurd (false≢true h)
 closes_two n (c ∷ d ∷ l) h = (c, d, l, refl)
 
-closes_bad : (n d : ℕ) (l : List ℕ) → closes n (no_character ∷ d ∷ l) ≡ true → ⊥
+-- the signs of a comment may stand in one
+brace_inside : is_inside 123 ≡ true
+unfolding is_inside class_of class_of_char
+brace_inside = refl
+
+dash_inside : is_inside 45 ≡ true
+unfolding is_inside class_of class_of_char
+dash_inside = refl
+
+outside : (c d : ℕ) → is_inside d ≡ true → is_inside c ≡ false → (c == d) ≡ false
+outside c d e f = differs c d (λ q. false≢true (sym f ∙ ap is_inside q ∙ e))
+
+closes_bad : (n c d : ℕ) (l : List ℕ) → is_inside c ≡ false → closes n (c ∷ d ∷ l) ≡ true → ⊥
 unfolding closes
-closes_bad n d l h = false≢true h
+closes_bad n c d l f h =
+    let whole : closes n (c ∷ d ∷ l) ≡ false =
+        cond-false _ _ _ (ap (λ b. b && (d == 45)) (outside c 123 brace_inside f)) ∙ cond-false _ _ _ (ap (λ b. b && (d == 125)) (outside c 45 dash_inside f)) ∙ ap (λ b. b && closes n (d ∷ l)) f in
+    false≢true (sym whole ∙ h)
 
 -- the state: done leads to here, and a text that closes goes on from here, where it closes the depth
 pub record Inside (cs here : List ℕ) (depth : ℕ) : Type 0 where
@@ -94,13 +110,13 @@ other_keeps c d n rest after (x ∷ m) r e h f =
 pub other : (cs here rest after : List ℕ) (c d depth : ℕ) → here ≡ c ∷ rest → rest ≡ d ∷ after → IsOther c d → Inside cs here depth → Inside cs rest depth
 other cs here rest after c d depth e f h g = step cs here rest (c ∷ []) depth depth e (λ m r q. other_keeps c d depth rest after m r f h q) (λ m r q k. one_first c d here rest after m r depth e q k) g
 
-pub stuck : (cs here : List ℕ) (depth : ℕ) → ((c d : ℕ) (l : List ℕ) → here ≡ c ∷ d ∷ l → c ≡ no_character) → Inside cs here depth → Nothing (λ l r. closes 1 l ≡ true) cs
+pub stuck : (cs here : List ℕ) (depth : ℕ) → ((c d : ℕ) (l : List ℕ) → here ≡ c ∷ d ∷ l → is_inside c ≡ false) → Inside cs here depth → Nothing (λ l r. closes 1 l ≡ true) cs
 stuck cs here depth never g l r h e =
     let b = g.back l r h e in
     let k : closes depth b.0 ≡ true = sym (g.same b.0 r b.2) ∙ ap (closes 1) (sym b.1) ∙ h in
     let t = closes_two depth b.0 k in
-    let q : t.0 ≡ no_character = never t.0 t.1 (t.2 ++ r) (b.2 ∙ ap (λ z. z ++ r) t.3) in
-    closes_bad depth t.1 t.2 (subst (λ z. closes depth (z ∷ t.1 ∷ t.2) ≡ true) q (subst (λ z. closes depth z ≡ true) t.3 k))
+    let q : is_inside t.0 ≡ false = never t.0 t.1 (t.2 ++ r) (b.2 ∙ ap (λ z. z ++ r) t.3) in
+    closes_bad depth t.0 t.1 t.2 q (subst (λ z. closes depth z ≡ true) t.3 k)
 
 nil_only : (m : List ℕ) → is_nil m ≡ true → m ≡ []
 nil_only [] h = refl
@@ -153,5 +169,5 @@ other_first cs rest after a b e g o c d l f h k =
     let q : b ≡ 45 = cc in
     false≢true (sym o.0 ∙ ap (λ x. is_opening x b) p ∙ ap (is_opening 123) q)
 
-pub bad_first : (cs : List ℕ) → ((c d : ℕ) (l : List ℕ) → cs ≡ c ∷ d ∷ l → c ≡ no_character) → (c d : ℕ) (l : List ℕ) → cs ≡ c ∷ d ∷ l → c ≡ 123 → d ≡ 45 → ⊥
-bad_first cs never c d l f h k = let q = never c d l f in omega arith
+pub bad_first : (cs : List ℕ) → ((c d : ℕ) (l : List ℕ) → cs ≡ c ∷ d ∷ l → is_inside c ≡ false) → (c d : ℕ) (l : List ℕ) → cs ≡ c ∷ d ∷ l → c ≡ 123 → d ≡ 45 → ⊥
+bad_first cs never c d l f h k = false≢true (sym (never c d l f) ∙ ap is_inside h ∙ brace_inside)

@@ -50,6 +50,10 @@ abbrev pub in_white : Class → Bool
 in_white White = true
 in_white _ = false
 
+-- what may stand inside of nested comments: any character but controls that aren't white space
+unfoldable pub is_inside : ℕ → Bool
+is_inside c = is_character c && (not (is_control c) || in_white (class_of c))
+
 -- the parts that stand in runs
 unfoldable pub in_part : Part → ℕ → Bool
 in_part part.Name c = in_name (class_of c)

@@ -1,10 +1,8 @@
 -- What stands at a place, and what a source is made of.
-use Rattle.std.specs.Prelude.{◌≡◌, ◌≢◌, ◌≤◌, ◌+◌, ℕ, Bool, true, false, List, [], ◌∷◌, ◌++◌, length, if◌then◌else◌}
-use Rattle.source_text.specs.Characters.{characters, span}
+use Rattle.std.specs.Prelude.{◌≡◌, ◌≤◌, ℕ, Bool, true, false, List, [], ◌∷◌, ◌++◌, length}
 use Rattle.hs_lex.specs.declared.class.Class.TheVariants as class
 use Rattle.hs_lex.specs.declared.item.Kind.{Kind}
 use Rattle.hs_lex.specs.declared.item.Kind.TheVariants.{Blank, LineComment, NestedComment, SmallName, LargeName, Operator, Number, Quoted, Special}
-use Rattle.hs_lex.specs.declared.item.Token.{Token}
 use Rattle.hs_lex.specs.Lexemes.{IsOne, IsName, IsOperator, IsLineComment, IsNestedComment, IsNumber, IsText, IsSpecial, IsLargeName}
 
 -- the text is of the kind where rest follows
@@ -39,41 +37,3 @@ is_lexeme Blank = false
 is_lexeme LineComment = false
 is_lexeme NestedComment = false
 is_lexeme _ = true
-
--- the token, where it is a lexeme
-abbrev pub lexeme : Token → List Token
-lexeme t = if is_lexeme t.kind then t ∷ [] else []
-
--- the lexemes among the items, the first of which begins at the byte `at`
-abbrev pub tokens_from : ℕ → List (Kind × List ℕ) → List Token
-tokens_from at [] = []
-tokens_from at (i ∷ is) = lexeme (record { kind = i.0; start = at; end = at + span i.1 }) ++ tokens_from (at + span i.1) is
-
-abbrev pub bytes_of : List (Kind × List ℕ) → ℕ
-bytes_of [] = 0
-bytes_of (i ∷ is) = span i.1 + bytes_of is
-
--- The source is white space, comments and lexemes in turn, and these are its lexemes.
-abbrev pub Lexes : List ℕ → List Token → Type 0
-Lexes source tokens = (is : List (Kind × List ℕ)) × Leads is (characters source) [] × (tokens ≡ tokens_from 0 is)
-
--- The byte is the first at which none of the three begins.
-abbrev pub IsFirstBad : List ℕ → ℕ → Type 0
-IsFirstBad source at = (is : List (Kind × List ℕ)) × (rest : List ℕ) × Leads is (characters source) rest × (rest ≢ []) × NoItem rest × (at ≡ bytes_of is)
-
-abbrev pub NoLexemes : List (Kind × List ℕ) → Type 0
-NoLexemes [] = Unit {0}
-NoLexemes (i ∷ is) = (is_lexeme i.0 ≡ false) × NoLexemes is
-
--- From the byte `at`, where cs stands, the token is the first.
-abbrev pub IsNext : List ℕ → ℕ → Token → Type 0
-IsNext cs at t = (is : List (Kind × List ℕ)) × (text mid rest : List ℕ) × NoLexemes is × Leads is cs mid × IsItem t.kind text mid rest × (is_lexeme t.kind ≡ true)
-    × (t.start ≡ at + bytes_of is) × (t.end ≡ t.start + span text)
-
--- only white space and comments follow
-abbrev pub IsBlank : List ℕ → Type 0
-IsBlank cs = (is : List (Kind × List ℕ)) × NoLexemes is × Leads is cs []
-
--- only white space and comments up to the byte at which nothing begins
-abbrev pub IsBadFrom : List ℕ → ℕ → ℕ → Type 0
-IsBadFrom cs at place = (is : List (Kind × List ℕ)) × (rest : List ℕ) × NoLexemes is × Leads is cs rest × (rest ≢ []) × NoItem rest × (place ≡ at + bytes_of is)

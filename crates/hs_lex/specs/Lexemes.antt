@@ -1,12 +1,13 @@
 -- White space, comments and lexemes.
-use Rattle.std.specs.Prelude.{◌≡◌, ◌≢◌, ◌⊎◌, ◌≤◌, ◌+◌, ◌-◌, ℕ, Bool, true, false, not, ◌==◌, ◌||◌, ◌&&◌, List, [], ◌∷◌, ◌++◌, length, if◌then◌else◌, codes}
+use Rattle.std.specs.Prelude.{◌≡◌, ◌≢◌, ◌⊎◌, ◌≤◌, ◌+◌, ◌-◌, ℕ, Bool, true, false, not, ◌==◌, ◌||◌, ◌&&◌, List, [], ◌∷◌, ◌++◌, length, if◌then◌else◌}
 use Rattle.std.specs.List.{flat_map, AllByRecursion}
 use Rattle.hs_lex.specs.declared.class.Class.{Class}
 use Rattle.hs_lex.specs.declared.class.Class.TheVariants as class
 use Rattle.hs_lex.specs.declared.class.Part.{Part}
 use Rattle.hs_lex.specs.declared.class.Part.TheVariants as part
-use Rattle.hs_lex.specs.Classes.{class_of, in_part}
+use Rattle.hs_lex.specs.Classes.{class_of, in_part, is_inside}
 use Rattle.hs_lex.specs.Reading.{AllIn, Ends, Nothing}
+use Rattle.hs_lex.specs.Words.{is_reserved}
 
 abbrev pub BeginsWith : Class → List ℕ → Type 0
 BeginsWith k [] = ⊥
@@ -40,7 +41,7 @@ abbrev pub IsLineComment : List ℕ → List ℕ → Type 0
 IsLineComment l rest = (dashes line : List ℕ) × (l ≡ dashes ++ line) × IsDashes dashes × Ends part.Symbol (line ++ rest) × AllIn part.Comment line × EndsLine rest
 
 -- The text closes so many open comments, at its end and not before: {- opens one more, -} closes one, and any other
--- character stands for itself.
+-- character stands for itself, where it may stand there.
 abbrev pub is_nil : List ℕ → Bool
 is_nil [] = true
 is_nil (c ∷ cs) = false
@@ -51,7 +52,7 @@ closes n (c ∷ []) = false
 closes n (c ∷ d ∷ cs) =
     if c == 123 && d == 45 then closes (n + 1) cs
     else if c == 45 && d == 125 then (if n == 1 then is_nil cs else closes (n - 1) cs)
-    else not (c == 0x110000) && closes n (d ∷ cs)
+    else is_inside c && closes n (d ∷ cs)
 
 abbrev pub IsNestedComment : List ℕ → Type 0
 IsNestedComment [] = ⊥
@@ -124,13 +125,9 @@ Then L M l = (a b : List ℕ) × (l ≡ a ++ b) × L a × M b
 abbrev pub IsNumber : List ℕ → Type 0
 IsNumber = Then IsDigits (Then IsFraction IsExponent)
 
--- the reserved words and operators
-abbrev pub IsReserved : List ℕ → Type 0
-IsReserved l = (l ≡ codes "where") ⊎ ((l ≡ codes "let") ⊎ ((l ≡ codes "of") ⊎ ((l ≡ codes "..") ⊎ ((l ≡ codes "=") ⊎ (l ≡ codes "->")))))
-
 -- a small name or an operator, taken whole and not reserved
 abbrev pub IsPlain : List ℕ → List ℕ → Type 0
-IsPlain l rest = (IsName class.Small l rest ⊎ IsOperator l rest) × (IsReserved l → ⊥)
+IsPlain l rest = (IsName class.Small l rest ⊎ IsOperator l rest) × (is_reserved l ≡ false)
 
 -- so many times a dot and a conid, and perhaps a dot and a plain last part
 abbrev pub IsTail : List (List ℕ) → List ℕ → List ℕ → Type 0

@@ -1,6 +1,7 @@
 -- What stands at the front of the inside of a comment.
-use Rattle.std.specs.Prelude.{◌≡◌, ◌≢◌, ◌<◌, ℕ, Bool, false, ◌==◌, ◌&&◌, List, ◌∷◌, length}
-use Rattle.source_text.specs.Characters.{characters, no_character}
+use Rattle.std.specs.Prelude.{◌≡◌, ◌<◌, ℕ, Bool, true, false, ◌==◌, ◌&&◌, List, ◌∷◌, length}
+use Rattle.source_text.specs.Characters.{characters}
+use Rattle.hs_lex.specs.Classes.{is_inside}
 use Rattle.hs_lex.specs.declared.nested.Sign.{Sign}
 use Rattle.hs_lex.specs.declared.nested.Sign.TheVariants.{Opens, Closes, Other, Nothing}
 
@@ -10,15 +11,15 @@ is_opening c d = c == 123 && d == 45
 abbrev pub is_closing : ℕ → ℕ → Bool
 is_closing c d = c == 45 && d == 125
 
--- no pair, and a character
+-- no pair, and a character that may stand in a comment
 abbrev pub IsOther : ℕ → ℕ → Type 0
-IsOther c d = (is_opening c d ≡ false) × (is_closing c d ≡ false) × (c ≢ no_character)
+IsOther c d = (is_opening c d ≡ false) × (is_closing c d ≡ false) × (is_inside c ≡ true)
 
 abbrev pub Tells : List ℕ → Sign → Type 0
 Tells cs (Opens rest) = cs ≡ 123 ∷ 45 ∷ characters rest.now
 Tells cs (Closes rest) = cs ≡ 45 ∷ 125 ∷ characters rest.now
 Tells cs (Other rest) = (c d : ℕ) × (after : List ℕ) × (cs ≡ c ∷ characters rest.now) × (characters rest.now ≡ d ∷ after) × IsOther c d
-Tells cs Nothing = (c d : ℕ) (l : List ℕ) → cs ≡ c ∷ d ∷ l → c ≡ no_character
+Tells cs Nothing = (c d : ℕ) (l : List ℕ) → cs ≡ c ∷ d ∷ l → is_inside c ≡ false
 
 abbrev pub IsShorter : ℕ → Sign → Type 0
 IsShorter n (Opens rest) = length rest.now < n

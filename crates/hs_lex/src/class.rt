@@ -1,6 +1,6 @@
 //! The classes of characters.
 ghost use Rattle.std.specs.Prelude.{◌≡◌};
-ghost use Rattle.hs_lex.specs.Classes.{class_of, of_char_class, in_part, in_name, in_symbol, in_white, is_character, is_control};
+ghost use Rattle.hs_lex.specs.Classes.{class_of, of_char_class, in_part, in_name, in_symbol, in_white, is_character, is_control, is_inside};
 
 use mk_base::char_class;
 use mk_base::char_class::CharClass;
@@ -97,6 +97,15 @@ fn is_control(c: u32) -> bool
     c < 32 || (c >= 127 && c <= 159)
 }
 
+/// Whether a character may stand inside of a nested comment: any but controls that aren't white space.
+#[tactic(auto, unfolding(crate::specs::Classes::is_inside))]
+pub fn is_inside(c: u32) -> bool
+    ensures { result ≡ is_inside c }
+{
+    is_character(c) && (!is_control(c) || is_white(class_of(c)))
+}
+
+/// Whether a character is of a part.
 #[tactic(auto, unfolding(crate::specs::Classes::in_part))]
 pub fn is_in(part: Part, c: u32) -> bool
     ensures { result ≡ in_part part c }

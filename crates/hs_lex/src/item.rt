@@ -11,6 +11,7 @@ use crate::quoted::text_at;
 use crate::sign::{line_comment_at, operator_at, special_at};
 use source_text::character::next_char;
 
+/// The kinds of items: white space of one character, comments, and lexemes.
 #[derive(Clone, Copy, Debug, PartialEq, Eq)]
 pub enum Kind {
     Blank,
@@ -24,14 +25,7 @@ pub enum Kind {
     Special,
 }
 
-/// A lexeme: from the byte `start` to the byte `end`.
-#[derive(Clone, Copy, Debug, PartialEq, Eq)]
-pub struct Token {
-    pub kind: Kind,
-    pub start: usize,
-    pub end: usize,
-}
-
+/// Whether an item of the kind is a lexeme wherever it stands.
 pub fn is_lexeme(kind: Kind) -> bool
     ensures { result ≡ is_lexeme kind }
 {

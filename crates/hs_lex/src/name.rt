@@ -1,24 +1,14 @@
-//! Names that begin large, and reserved words.
-ghost use Rattle.std.specs.Prelude.{◌≡◌, ◌↔◌, IsTrue, List, ℕ, ◌++◌, ◌∷◌, false};
-ghost use Rattle.source_text.specs.Characters.{characters, AllCharacters};
+//! Names.
+ghost use Rattle.source_text.specs.Characters.{characters};
 ghost use Rattle.hs_lex.specs.Reading.{IsLongest, Reads};
-ghost use Rattle.hs_lex.specs.Lexemes.{IsReserved, IsName, IsPlain, IsTail, IsAnyTail, IsLargeName};
+ghost use Rattle.hs_lex.specs.Lexemes.{IsName, IsPlain, IsTail, IsAnyTail, IsLargeName};
 ghost use Rattle.hs_lex.specs.Behind.{Tells};
 
 use crate::class::{Class, Part, class_of};
 use crate::run::run;
 use crate::sign::operator_at;
+use crate::words::is_reserved;
 use source_text::character::{next_char, text_between};
-
-/// Whether a text is a reserved word or operator.
-pub fn is_reserved(text: &[u8]) -> bool
-    ensures { IsTrue result ↔ IsReserved text.now }
-{
-    match text {
-        b"where" | b"let" | b"of" | b".." | b"=" | b"->" => true,
-        _ => false,
-    }
-}
 
 /// What stands behind a dot: the last part of a name, a further qualifier, or neither.
 pub enum Behind<'a> {

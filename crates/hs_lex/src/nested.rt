@@ -5,7 +5,8 @@ ghost use Rattle.hs_lex.specs.Reading.{Reads};
 ghost use Rattle.hs_lex.specs.Lexemes.{closes, IsNestedComment};
 ghost use Rattle.hs_lex.specs.Signs.{Tells, IsShorter};
 
-use source_text::character::{NO_CHARACTER, next_char};
+use crate::class::is_inside;
+use source_text::character::next_char;
 
 /// What stands at the front of the inside of a comment.
 pub enum Sign<'a> {
@@ -15,7 +16,7 @@ pub enum Sign<'a> {
     Nothing,
 }
 
-/// The sign at the front: a pair that opens or closes a comment, or any other character that isn't the last.
+/// The sign at the front: a pair that opens or closes a comment, or any other that may stand there and isn't the last.
 fn sign_at(bytes: &[u8]) -> Sign<'_>
     ensures tells { Tells (characters bytes.now) result }
     ensures less { IsShorter (length bytes.now) result }
@@ -32,7 +33,7 @@ fn sign_at(bytes: &[u8]) -> Sign<'_>
     if c == 45 && d == 125 {
         return Sign::Closes(after);
     }
-    if c == NO_CHARACTER {
+    if !is_inside(c) {
         return Sign::Nothing;
     }
     Sign::Other(next)
