@@ -13,7 +13,7 @@ use Rattle.source_text.proofs.Characters.{none}
 use Rattle.source_text.proofs.Widths.{text_bytes, reads_first}
 use Rattle.hs_lex.specs.Words.{is_one_of, words, operator_words, is_word, is_operator_word, is_import}
 
-is_ascii : List ℕ → Bool
+unfoldable pub is_ascii : List ℕ → Bool
 is_ascii [] = true
 is_ascii (c ∷ cs) = nat_lt c 128 && is_ascii cs
 
@@ -39,7 +39,7 @@ unfolding is_ascii
 ascii_bytes [] h = refl
 ascii_bytes (c ∷ w) h = let p = and_parts (nat_lt c 128) (is_ascii w) h in ap (λ t. t ++ encode_utf8_all w) (one_byte c p.0) ∙ ap (λ t. c ∷ t) (ascii_bytes w p.1)
 
-ascii_reads : (w : List ℕ) → is_ascii w ≡ true → characters w ≡ w
+pub ascii_reads : (w : List ℕ) → is_ascii w ≡ true → characters w ≡ w
 unfolding is_ascii
 ascii_reads [] h = none
 ascii_reads (c ∷ w) h =
@@ -48,7 +48,7 @@ ascii_reads (c ∷ w) h =
     ap (λ t. characters (t ++ w)) (sym e) ∙ reads_first c w (scalar c p.0) (omega (arith, ap length e)) ∙ ap (λ t. c ∷ t) (ascii_reads w p.1)
 
 -- the bytes of a text that reads as a word are those of the word
-spelled : (bs w : List ℕ) → is_ascii w ≡ true → characters bs ≡ w → bs ≡ w
+pub spelled : (bs w : List ℕ) → is_ascii w ≡ true → characters bs ≡ w → bs ≡ w
 spelled bs w h e = sym (take_all (length bs - 0) bs (omega arith)) ∙ text_bytes w bs [] (e ∙ sym (append-nil w) ∙ ap (λ t. w ++ t) (sym none)) (ascii_characters w h) ∙ ascii_bytes w h
 
 both : (a b : Bool) (A B : Type 0) → Decides a A → Decides b B → (A → B) → (B → A) → a ≡ b
@@ -79,3 +79,7 @@ operator_word bs = one_of operator_words bs refl
 pub import_word : (bs : List ℕ) → bytes_eq bs (codes "import") ≡ is_import (characters bs)
 unfolding is_import is_ascii
 import_word bs = same_word bs (codes "import") refl
+
+pub end_word : (bs : List ℕ) → bytes_eq bs (codes "#-}") ≡ bytes_eq (characters bs) (codes "#-}")
+unfolding is_ascii
+end_word bs = same_word bs (codes "#-}") refl

@@ -73,6 +73,10 @@ pub record IsRead (source : List ℕ) (c : Cursor) (is : List (Kind × List ℕ)
   pub leads : Leads is (ahead source c) (ahead source d)
   pub tokens : Tokens source c is ts d
 
+-- the turn over the item that stands at a cursor
+abbrev pub IsTaken : List ℕ → Cursor → Turn → Type 0
+IsTaken source c t = (k : Kind) × (text : List ℕ) × IsItem k text (ahead source c) (ahead source t.to) × IsTurn c k text t
+
 -- a leading U+FEFF, by its three bytes
 abbrev pub is_marked : List ℕ → Bool
 is_marked source = bytes_eq (239 ∷ 187 ∷ 191 ∷ []) (take 3 source)

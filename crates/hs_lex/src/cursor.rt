@@ -1,9 +1,8 @@
 //! Where a reading of a source stands, and one item further.
-ghost use Rattle.std.specs.Prelude.{◌≡◌, ◌↔◌, ◌≤◌, ◌-◌, IsTrue, IfOk, OnOk, ◌++◌, List, ℕ, length, take, drop, MatchOption};
+ghost use Rattle.std.specs.Prelude.{◌≡◌, ◌↔◌, ◌≤◌, ◌<◌, ◌-◌, ◌+◌, ◌*◌, ◌^◌, IsTrue, IfOk, OnOk, ◌++◌, List, ℕ, length, take, drop, MatchOption};
 ghost use Rattle.source_text.specs.Characters.{characters};
-ghost use Rattle.hs_lex.specs.Items.{IsItem, NoItem};
-ghost use Rattle.hs_lex.specs.Tokens.{IsToken, IsTurn, IsWithin, ahead, start, behind_token, position, token_at, tokens_at};
-ghost use Rattle.hs_lex.specs.declared.item.Kind.{Kind};
+ghost use Rattle.hs_lex.specs.Items.{NoItem};
+ghost use Rattle.hs_lex.specs.Tokens.{IsToken, IsTurn, IsTaken, IsWithin, ahead, start, behind_token, position, token_at, tokens_at};
 
 use crate::item::{Kind, is_lexeme, item_at};
 use crate::pragma::is_pragma;
@@ -123,7 +122,7 @@ fn turn_over(cursor: Cursor, kind: Kind, text: &[u8]) -> Turn
 pub fn turn_at(source: &[u8], cursor: Cursor) -> Option<Turn>
     requires size { length source.now ≤ 1048576 }
     requires within { IsWithin source.now cursor }
-    ensures { MatchOption result (NoItem (ahead source.now cursor)) (λ t. (k : Kind) × (text : List ℕ) × IsItem k text (ahead source.now cursor) (ahead source.now t.to) × IsTurn cursor k text t) }
+    ensures { MatchOption result (NoItem (ahead source.now cursor)) (λ t. IsTaken source.now cursor t) }
 {
     let rest = &source[cursor.at..];
     match item_at(rest) {
