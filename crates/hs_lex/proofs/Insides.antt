@@ -51,7 +51,7 @@ closes_bad : (n c d : ℕ) (l : List ℕ) → is_inside c ≡ false → closes n
 unfolding closes
 closes_bad n c d l f h =
     let whole : closes n (c ∷ d ∷ l) ≡ false =
-        cond-false _ _ _ (ap (λ b. b && (d == 45)) (outside c 123 brace_inside f)) ∙ cond-false _ _ _ (ap (λ b. b && (d == 125)) (outside c 45 dash_inside f)) ∙ ap (λ b. b && closes n (d ∷ l)) f in
+    cond-false _ _ _ (ap (λ b. b && (d == 45)) (outside c 123 brace_inside f)) ∙ cond-false _ _ _ (ap (λ b. b && (d == 125)) (outside c 45 dash_inside f)) ∙ ap (λ b. b && closes n (d ∷ l)) f in
     false≢true (sym whole ∙ h)
 
 -- the state: done leads to here, and a text that closes goes on from here, where it closes the depth

@@ -287,9 +287,9 @@ module _ (cs inside word behind : List ℕ) (e : cs ≡ 123 ∷ 45 ∷ 35 ∷ in
   language_told rest b k some run d = (
     (λ t. language_join k run.0 rest run.1 (gap_of run.0 rest run.2 run.3 (λ h. some (subst (Ends part.White) (sym run.1) h))) (d.0 t)),
     (λ x.
-    let s = (language_split x).1 in
-    let r = same_run part.White run.0 rest s.0 s.1 run.2 run.3 s.3.1 (names_white s.1 s.4) (sym run.1 ∙ s.2) in
-    d.1 (subst IsNames (sym r.1) s.4)),
+        let s = (language_split x).1 in
+        let r = same_run part.White run.0 rest s.0 s.1 run.2 run.3 s.3.1 (names_white s.1 s.4) (sym run.1 ∙ s.2) in
+        d.1 (subst IsNames (sym r.1) s.4)),
   )
 
   source_split : IsSource cs → IsKeyword (codes "source") letters.0 × ((w : List ℕ) × (behind ≡ w ++ codes "#-}") × AllIn part.White w)
@@ -310,9 +310,9 @@ module _ (cs inside word behind : List ℕ) (e : cs ≡ 123 ∷ 45 ∷ 35 ∷ in
       let d = bytes_eq-Decides rest (codes "#-}") in (
         (λ t. (blanks.0, letters.0, run.0, e ∙ ap (λ t. 123 ∷ 45 ∷ 35 ∷ t) (blanks.1 ∙ ap (λ t. blanks.0 ++ t) (letters.1 ∙ ap (λ t. letters.0 ++ t) (run.1 ∙ ap (λ t. run.0 ++ t) (d.0 (sym f ∙ t))))), blanks.2, k, run.2)),
         (λ x.
-        let s = (source_split x).1 in
-        let r = same_run part.White run.0 rest s.0 (codes "#-}") run.2 run.3 s.2 sign_white (sym run.1 ∙ s.1) in
-        f ∙ d.1 r.1),
+            let s = (source_split x).1 in
+            let r = same_run part.White run.0 rest s.0 (codes "#-}") run.2 run.3 s.2 sign_white (sym run.1 ∙ s.1) in
+            f ∙ d.1 r.1),
       )
 
 pub smaller : (here behind end next rest : List ℕ) → ((n : List ℕ) × IsIdentifier n × (here ≡ n ++ behind) × Ends part.Name behind) → Runs part.White behind end → end ≡ 44 ∷ next → Runs part.White next rest → length rest < length here

@@ -1,6 +1,6 @@
 -- A whole source, and its laws.
 use Rattle.std.specs.Prelude.{Option, Some, None, Result, Ok, Err}
-use Rattle.std.proofs.Common.{◌≡◌, ◌≢◌, ⊎_elim, ℕ, ◌+◌, ◌-◌, ◌<◌, ◌≤◌, drop, List, [], ◌∷◌, ◌++◌, length, refl, ap, sym, ◌∙◌, subst, arith, length-drop, length-append}
+use Rattle.std.proofs.Common.{◌≡◌, ◌≢◌, ⊎_elim, ℕ, ◌+◌, ◌-◌, ◌<◌, ◌≤◌, drop, false, List, [], ◌∷◌, ◌++◌, length, refl, ap, sym, ◌∙◌, subst, arith, length-drop, length-append}
 use Rattle.std.proofs.lemmas.List.{append-nil}
 use Rattle.mk_base.specs.declared.place.Pos.{Pos}
 use Rattle.source_text.specs.Characters.{characters, span}
@@ -10,6 +10,7 @@ use Rattle.hs_syntax.specs.declared.token.TokenKind.{TokenKind}
 use Rattle.hs_lex.specs.declared.class.Class.{Class}
 use Rattle.hs_lex.specs.declared.item.Kind.{Kind}
 use Rattle.hs_lex.specs.declared.cursor.Stage.{Stage}
+use Rattle.hs_lex.specs.declared.cursor.Stage.TheVariants.{Front}
 use Rattle.hs_lex.specs.declared.cursor.Cursor.{Cursor}
 use Rattle.hs_lex.specs.declared.cursor.Turn.{Turn}
 use Rattle.hs_lex.specs.declared.lex.LexErr.{LexErr}
@@ -218,3 +219,10 @@ blocked_by source cursor c (j ∷ js) us n h k = absurd (n j.0 j.1 h.0 h.1.is h.
 pub blocked : (source : List ℕ) (cursor c : Cursor) → NoItem (ahead source cursor) → Toward source cursor c → c ≡ cursor
 unfolding Toward
 blocked source cursor c n h = blocked_by source cursor c h.0 h.1 n h.2.leads h.2.tokens
+
+first_cursor : ℕ → Cursor
+first_cursor n = record { at = n; place = record { line = 1; column = 1; after_return = false }; stage = Front }
+
+pub marked : (source : List ℕ) (n : ℕ) → n ≡ (start source).at → record { at = n; place = record { line = 1; column = 1; after_return = false }; stage = Front } ≡ start source
+unfolding first_cursor
+marked source n e = ap first_cursor e

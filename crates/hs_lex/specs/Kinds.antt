@@ -6,7 +6,7 @@ use Rattle.hs_lex.specs.declared.class.Class.{Class}
 use Rattle.hs_lex.specs.declared.class.Class.TheVariants as class
 use Rattle.hs_lex.specs.declared.class.Part.TheVariants as part
 use Rattle.hs_lex.specs.declared.item.Kind.{Kind}
-use Rattle.hs_lex.specs.declared.item.Kind.TheVariants.{SmallName, LargeName, Operator, Number, Quoted, Special}
+use Rattle.hs_lex.specs.declared.item.Kind.TheVariants.{Blank, LineComment, NestedComment, SmallName, LargeName, Operator, Number, Quoted, Special}
 use Rattle.hs_lex.specs.Classes.{class_of, in_part}
 use Rattle.hs_lex.specs.Words.{is_word, is_operator_word}
 
@@ -62,4 +62,6 @@ kind_of Operator l = if is_operator_word l then token.WordOp else (if begins_wit
 kind_of Number l = if is_integer l then token.Number else token.Fraction
 kind_of Quoted l = token.Text
 kind_of Special l = token.Special
-kind_of _ l = token.Pragma
+kind_of NestedComment l = token.Pragma
+kind_of LineComment l = token.Pragma
+kind_of Blank l = token.Pragma

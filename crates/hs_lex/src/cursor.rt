@@ -2,7 +2,7 @@
 ghost use Rattle.std.specs.Prelude.{◌≡◌, ◌↔◌, ◌≤◌, ◌<◌, ◌-◌, ◌+◌, ◌*◌, ◌^◌, IsTrue, IfOk, OnOk, ◌++◌, List, ℕ, length, take, drop, MatchOption};
 ghost use Rattle.source_text.specs.Characters.{characters};
 ghost use Rattle.hs_lex.specs.Items.{NoItem};
-ghost use Rattle.hs_lex.specs.Tokens.{IsToken, IsTurn, IsTaken, IsWithin, ahead, start, behind_token, position, token_at, tokens_at};
+ghost use Rattle.hs_lex.specs.Tokens.{IsReached, IsToken, IsTurn, IsTaken, IsWithin, ahead, start, behind_token, position, token_at, tokens_at};
 
 use crate::item::{Kind, is_lexeme, item_at};
 use crate::pragma::is_pragma;
@@ -41,19 +41,29 @@ pub struct Turn {
     pub to: Cursor,
 }
 
+/// How many bytes a leading U+FEFF takes, where one stands there.
+fn mark_length(source: &[u8]) -> usize
+    ensures { result ≡ (start source.now).at }
+{
+    if source.starts_with(b"\xEF\xBB\xBF") {
+        3
+    } else {
+        0
+    }
+}
+
 /// The first cursor of a source: behind a leading U+FEFF, in line 1 and column 1.
 pub fn start(source: &[u8]) -> Cursor
-    ensures { result ≡ start source.now }
+    ensures is { result ≡ start source.now }
+    ensures reached { IsReached source.now result }
 {
-    let at = if source.starts_with(b"\xEF\xBB\xBF") { 3 } else { 0 };
-    let place = Place {
-        line: 1,
-        column: 1,
-        after_return: false,
-    };
     Cursor {
-        at,
-        place,
+        at: mark_length(source),
+        place: Place {
+            line: 1,
+            column: 1,
+            after_return: false,
+        },
         stage: Stage::Front,
     }
 }
@@ -132,7 +142,13 @@ pub fn turn_at(source: &[u8], cursor: Cursor) -> Option<Turn>
 }
 
 /// The token of a kind between two cursors.
-pub fn token_at(alloc: Global, source: &[u8], from: Cursor, kind: TokenKind, to: Cursor) -> Result<Token, NoMemory>
+pub fn token_at(
+    alloc: Global,
+    source: &[u8],
+    from: Cursor,
+    kind: TokenKind,
+    to: Cursor,
+) -> Result<Token, NoMemory>
     requires size { length source.now ≤ 1048576 }
     requires order { from.at ≤ to.at }
     requires within { to.at ≤ length source.now }
@@ -151,7 +167,13 @@ pub fn token_at(alloc: Global, source: &[u8], from: Cursor, kind: TokenKind, to:
 }
 
 /// Puts the token of a turn at the end, where it has one. After an error the tokens are as before.
-pub fn push_turn(alloc: Global, source: &[u8], from: Cursor, turn: Turn, tokens: &mut List<Token>) -> Result<(), NoMemory>
+pub fn push_turn(
+    alloc: Global,
+    source: &[u8],
+    from: Cursor,
+    turn: Turn,
+    tokens: &mut List<Token>,
+) -> Result<(), NoMemory>
     requires size { length source.now ≤ 1048576 }
     requires order { from.at ≤ turn.to.at }
     requires within { turn.to.at ≤ length source.now }

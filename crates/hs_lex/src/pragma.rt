@@ -17,13 +17,7 @@ fn after(c: u32, bytes: &[u8]) -> Option<&[u8]>
     ensures { MatchOption result ((m : List ℕ) → characters bytes.now ≡ c ∷ m → ⊥) (λ r. characters bytes.now ≡ c ∷ characters r.now) }
 {
     match next_char(bytes) {
-        Some((d, rest)) => {
-            if d == c {
-                Some(rest)
-            } else {
-                None
-            }
-        }
+        Some((d, rest)) => { if d == c { Some(rest) } else { None } }
         None => None,
     }
 }

@@ -117,6 +117,6 @@ pub fn kind_of(kind: Kind, text: &[u8]) -> TokenKind
         }
         Kind::Quoted => TokenKind::Text,
         Kind::Special => TokenKind::Special,
-        _ => TokenKind::Pragma,
+        Kind::NestedComment | Kind::LineComment | Kind::Blank => TokenKind::Pragma,
     }
 }

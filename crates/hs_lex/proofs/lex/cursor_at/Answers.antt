@@ -4,7 +4,7 @@ use Rattle.hs_lex.proofs.Whole.{toward_start, toward_more, reached_start, reache
 use Rattle.hs_lex.proofs.lex.cursor_at.Goals as goal
 
 pub loop-cursor-init : goal.loop-cursor-init
-loop-cursor-init c = record { reached = reached_start _ _ c.start-cursor.ensures; toward = λ d h. toward_start _ _ d _ c.start-cursor.ensures h }
+loop-cursor-init c = record { reached = reached_start _ _ c.start-cursor.ensures.is; toward = λ d h. toward_start _ _ d _ c.start-cursor.ensures.is h }
 
 pub turn_at-requires-clause-within : goal.turn_at-requires-clause-within
 turn_at-requires-clause-within c = reached_within _ _ c.loop-cursor.invariant.reached

@@ -3,7 +3,7 @@ use Rattle.hs_lex.proofs.Whole.{nothing_read, at_start, taken_within, taken_far,
 use Rattle.hs_lex.proofs.lex.lex.Goals as goal
 
 pub loop-turn-init : goal.loop-turn-init
-loop-turn-init c = record { read = nothing_read _ _ _ c.new-tokens.ensures c.start-cursor.ensures; within = at_start _ _ c.start-cursor.ensures }
+loop-turn-init c = record { read = nothing_read _ _ _ c.new-tokens.ensures c.start-cursor.ensures.is; within = at_start _ _ c.start-cursor.ensures.is }
 
 pub push_turn-requires-clause-within : goal.push_turn-requires-clause-within
 push_turn-requires-clause-within c = (taken_within c.args.source.now _ _ c.in-Some.ensures c.loop-turn.invariant.within).0
