@@ -1,13 +1,13 @@
 -- The kinds of names and numbers.
-use Rattle.std.specs.Prelude.{◌==◌, ◌&&◌, if◌then◌else◌, Option, Some, None}
-use Rattle.std.proofs.Common.{◌≡◌, ℕ, Bool, true, false, List, [], ◌∷◌, ◌++◌, length, refl, ap, sym, ◌∙◌, subst, arith}
-use Rattle.std.proofs.lemmas.Bool.{false≢true, cond-true, cond-false}
+use Rattle.std.specs.Prelude.{◌==◌, ◌&&◌, Some, None}
+use Rattle.std.proofs.Common.{◌≡◌, ℕ, Bool, true, false, List, [], ◌∷◌, ◌++◌, length, refl, ap, sym, ◌∙◌, arith}
+use Rattle.std.proofs.lemmas.Bool.{cond-true, cond-false}
 use Rattle.std.proofs.lemmas.Bool.Decides.{nat_tests}
 use Rattle.hs_syntax.specs.declared.token.TokenKind.{TokenKind}
 use Rattle.hs_syntax.specs.declared.token.TokenKind.TheVariants as token
 use Rattle.hs_lex.specs.declared.class.Part.TheVariants as part
 use Rattle.hs_lex.specs.Classes.{in_part}
-use Rattle.hs_lex.specs.Reading.{AllIn, Ends, Runs}
+use Rattle.hs_lex.specs.Reading.{AllIn, Runs}
 use Rattle.source_text.specs.Characters.{characters}
 use Rattle.source_text.proofs.Characters.{empty, filled, some}
 use Rattle.hs_lex.specs.Kinds.{large_kind, last_kind_at, or_else, all_digits}

@@ -1,24 +1,21 @@
 -- Tokens in turn, and how far a cursor is.
-use Rattle.std.specs.Prelude.{◌==◌, ◌&&◌, ◌||◌, nat_lt, Option, Some, None, if◌then◌else◌, take}
+use Rattle.std.specs.Prelude.{◌==◌, ◌&&◌, nat_lt, if◌then◌else◌, take}
 use Rattle.std.specs.Char.{encode_utf8}
-use Rattle.std.proofs.Common.{◌≡◌, ◌⊎◌, inl, inr, ⊎_elim, ℕ, ◌+◌, ◌-◌, ◌*◌, ◌/◌, ◌%◌, ◌<◌, ◌≤◌, drop, Bool, true, false, List, [], ◌∷◌, ◌++◌, length, refl, ap, sym, ◌∙◌, subst, arith, append_assoc, length-append, length-drop, length-take, take_all}
-use Rattle.std.proofs.lemmas.Bool.{cases_Bool, cond-true, cond-false}
+use Rattle.std.proofs.Common.{◌≡◌, ℕ, ◌+◌, ◌-◌, ◌*◌, ◌/◌, ◌%◌, ◌<◌, ◌≤◌, drop, Bool, true, false, List, [], ◌∷◌, ◌++◌, length, refl, ap, sym, ◌∙◌, subst, arith, append_assoc, length-drop, length-take, take_all}
 use Rattle.std.proofs.lemmas.List.{append-nil, drop-drop}
-use Rattle.std.specs.Str.{bytes_eq}
 use Rattle.std.proofs.lemmas.Slice.Eq.{bytes_eq-Decides}
 use Rattle.source_text.specs.Characters.{characters, span, width, no_character}
 use Rattle.source_text.specs.Places.{after, step, is_newline}
 use Rattle.source_text.specs.declared.place.Place.{Place}
-use Rattle.source_text.proofs.Characters.{some, none}
+use Rattle.source_text.proofs.Characters.{none}
 use Rattle.source_text.proofs.Widths.{span_between, drop_span, ends_before}
 use Rattle.hs_syntax.specs.declared.token.Token.{Token}
-use Rattle.hs_syntax.specs.declared.token.TokenKind.{TokenKind}
 use Rattle.hs_lex.specs.declared.item.Kind.{Kind}
 use Rattle.hs_lex.specs.declared.cursor.Stage.{Stage}
 use Rattle.hs_lex.specs.declared.cursor.Cursor.{Cursor}
 use Rattle.hs_lex.specs.declared.cursor.Turn.{Turn}
-use Rattle.hs_lex.specs.Items.{IsItem, NoItem, Leads}
-use Rattle.hs_lex.specs.Tokens.{Counts, IsTurn, moved, Tokens, tokens_at, ahead, IsRead, start, IsReached, IsWithin, IsTaken, is_marked}
+use Rattle.hs_lex.specs.Items.{IsItem, Leads}
+use Rattle.hs_lex.specs.Tokens.{IsTurn, moved, Tokens, tokens_at, ahead, IsRead, start, IsReached, IsWithin, IsTaken, is_marked}
 
 -- a line and a column grow by no more than the bytes do
 stepped : Place → ℕ → Bool → Bool → Bool → Place

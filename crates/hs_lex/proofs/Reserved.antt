@@ -3,12 +3,12 @@ use Rattle.std.specs.Prelude.{encode_utf8_all, codes, nat_lt, ◌||◌, ◌&&◌
 use Rattle.std.specs.Char.{encode_utf8, IsScalar}
 use Rattle.std.specs.Str.{bytes_eq}
 use Rattle.std.specs.Bool.{Decides}
-use Rattle.std.proofs.Common.{◌≡◌, ℕ, ◌-◌, ◌<◌, Bool, true, false, List, [], ◌∷◌, ◌++◌, length, take, refl, ap, sym, ◌∙◌, subst, arith, take_all}
-use Rattle.std.proofs.lemmas.Bool.{false≢true, cond-true, and_parts}
+use Rattle.std.proofs.Common.{◌≡◌, ℕ, ◌-◌, ◌<◌, Bool, true, false, List, [], ◌∷◌, ◌++◌, length, refl, ap, sym, ◌∙◌, arith, take_all}
+use Rattle.std.proofs.lemmas.Bool.{cond-true, and_parts}
 use Rattle.std.proofs.lemmas.Bool.Decides.{nat_tests}
 use Rattle.std.proofs.lemmas.List.{append-nil}
 use Rattle.std.proofs.lemmas.Slice.Eq.{bytes_eq-Decides}
-use Rattle.source_text.specs.Characters.{characters, AllCharacters, no_character}
+use Rattle.source_text.specs.Characters.{characters, AllCharacters}
 use Rattle.source_text.proofs.Characters.{none}
 use Rattle.source_text.proofs.Widths.{text_bytes, reads_first}
 use Rattle.hs_lex.specs.Words.{is_one_of, words, operator_words, is_word, is_operator_word, is_import}

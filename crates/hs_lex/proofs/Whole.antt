@@ -1,9 +1,8 @@
 -- A whole source, and its laws.
 use Rattle.std.specs.Prelude.{Option, Some, None, Result, Ok, Err}
-use Rattle.std.proofs.Common.{◌≡◌, ◌≢◌, ⊎_elim, ℕ, ◌+◌, ◌-◌, ◌<◌, ◌≤◌, drop, false, List, [], ◌∷◌, ◌++◌, length, refl, ap, sym, ◌∙◌, subst, arith, length-drop, length-append}
-use Rattle.std.proofs.lemmas.List.{append-nil}
+use Rattle.std.proofs.Common.{◌≡◌, ◌≢◌, ⊎_elim, ℕ, ◌<◌, ◌≤◌, drop, false, List, [], ◌∷◌, ◌++◌, length, refl, ap, sym, ◌∙◌, subst, arith, length-drop}
 use Rattle.mk_base.specs.declared.place.Pos.{Pos}
-use Rattle.source_text.specs.Characters.{characters, span}
+use Rattle.source_text.specs.Characters.{characters}
 use Rattle.source_text.proofs.Characters.{some, none}
 use Rattle.hs_syntax.specs.declared.token.Token.{Token}
 use Rattle.hs_syntax.specs.declared.token.TokenKind.{TokenKind}
@@ -17,9 +16,9 @@ use Rattle.hs_lex.specs.declared.lex.LexErr.{LexErr}
 use Rattle.hs_lex.specs.declared.lex.LexErr.TheVariants.{NoLexeme}
 use Rattle.hs_lex.specs.Lexemes.{BeginsWith}
 use Rattle.hs_lex.specs.Items.{IsItem, NoItem, Leads}
-use Rattle.hs_lex.specs.Tokens.{IsToken, Counts, IsTurn, moved, Tokens, tokens_at, token_at, ahead, position, IsRead, start, Lexes, IsFirstBad, IsReached, IsStuck, IsNext, IsBlank, IsBadFrom, IsWithin, IsTaken, IsPlace}
+use Rattle.hs_lex.specs.Tokens.{Counts, IsTurn, moved, Tokens, tokens_at, token_at, ahead, position, IsRead, start, Lexes, IsFirstBad, IsReached, IsNext, IsBlank, IsBadFrom, IsWithin, IsTaken, IsPlace}
 use Rattle.hs_lex.proofs.Dispatch.{same_item, end_none, begins, first}
-use Rattle.hs_lex.proofs.Reached.{read_push, read_none, turn_within, read_within, drop_none, span_some, start_within, read_join}
+use Rattle.hs_lex.proofs.Reached.{read_push, read_none, turn_within, drop_none, span_some, start_within, read_join}
 
 pub at_end : (source : List ℕ) (c : Cursor) → c.at ≡ length source → ahead source c ≡ []
 at_end source c e = ap characters (drop_none source c.at (omega arith)) ∙ none

@@ -8,7 +8,7 @@ use Rattle.source_text.specs.Characters.{characters, span}
 use Rattle.source_text.specs.Places.{after}
 use Rattle.source_text.specs.declared.place.Place.{Place}
 use Rattle.hs_lex.specs.declared.item.Kind.{Kind}
-use Rattle.hs_lex.specs.declared.item.Kind.TheVariants.{Blank, LineComment, NestedComment, SmallName, LargeName, Operator, Number, Quoted, Special}
+use Rattle.hs_lex.specs.declared.item.Kind.TheVariants.{NestedComment}
 use Rattle.hs_lex.specs.declared.cursor.Stage.{Stage}
 use Rattle.hs_lex.specs.declared.cursor.Stage.TheVariants.{Front, Import, Later}
 use Rattle.hs_lex.specs.declared.cursor.Cursor.{Cursor}

@@ -1,5 +1,5 @@
 use Rattle.std.specs.Prelude.{Ok, Err}
-use Rattle.std.proofs.Common.{◌≡◌, ◌∙◌, ap, sym, subst}
+use Rattle.std.proofs.Common.{◌∙◌, ap, sym, subst}
 use Rattle.hs_lex.specs.Tokens.{IsNext, IsBlank, IsBadFrom, IsReached}
 use Rattle.hs_lex.proofs.Whole.{part, fault}
 use Rattle.hs_lex.proofs.lex.next_token.Goals as goal

@@ -1,5 +1,4 @@
-use Rattle.std.proofs.Common.{◌≡◌, ◌∙◌, sym, arith, subst}
-use Rattle.hs_lex.specs.Tokens.{IsNext, IsReached}
+use Rattle.std.proofs.Common.{◌≡◌, ◌∙◌, sym, arith}
 use Rattle.hs_lex.proofs.Reached.{reached_within}
 use Rattle.hs_lex.proofs.Whole.{parts, past_none, past_more, past_all, past_bad, found, next_reached, taken_within, taken_far}
 use Rattle.hs_lex.proofs.lex.read.Goals as goal

@@ -1,6 +1,5 @@
 use Rattle.std.proofs.Common.{sym, ◌∙◌}
 use Rattle.std.proofs.lemmas.Bool.{false≢true}
-use Rattle.source_text.proofs.Widths.{ends_before}
 use Rattle.hs_lex.proofs.Parts.{no_language, other_language, gapless, language_told, language_test}
 use Rattle.hs_lex.proofs.pragma.is_language.Goals as goal
 

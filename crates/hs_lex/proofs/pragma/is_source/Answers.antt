@@ -1,6 +1,5 @@
 use Rattle.std.proofs.Common.{sym, ◌∙◌}
 use Rattle.std.proofs.lemmas.Bool.{false≢true}
-use Rattle.source_text.proofs.Widths.{ends_before}
 use Rattle.hs_lex.proofs.Parts.{no_source, other_source, source_told, source_test}
 use Rattle.hs_lex.proofs.pragma.is_source.Goals as goal
 
