@@ -11,8 +11,10 @@ use Rattle.hs_lex.specs.declared.item.Kind.{Kind}
 use Rattle.hs_lex.specs.declared.item.Kind.TheVariants.{Blank, LineComment, NestedComment, SmallName, LargeName, Operator, Number, Quoted, Special}
 use Rattle.hs_lex.specs.Classes.{class_of, in_part}
 use Rattle.hs_lex.specs.Reading.{IsLongest, Nothing}
-use Rattle.hs_lex.specs.Lexemes.{BeginsWith, IsDigits, IsDashes, IsNestedComment, IsSpecial, IsLineComment, IsOperator}
+use Rattle.hs_lex.specs.Numbers.{IsNumber}
+use Rattle.hs_lex.specs.Lexemes.{BeginsWith, IsDashes, IsNestedComment, IsSpecial, IsLineComment, IsOperator}
 use Rattle.hs_lex.specs.Items.{Is, IsItem, NoItem}
+use Rattle.hs_lex.proofs.Numbers.{number_begins}
 use Rattle.hs_lex.proofs.Plain.{same_class}
 use Rattle.hs_lex.proofs.Runs.{same_run}
 use Rattle.hs_lex.proofs.Sequence.{shorter}
@@ -43,9 +45,8 @@ digit_class : (c : ℕ) → in_part part.Digit c ≡ true → class_of c ≡ cla
 unfolding in_part class_of class_of_char
 digit_class c h = grind (arith, nat_tests)
 
-digits_begin : (l : List ℕ) → IsDigits l → BeginsWith class.Digit l
-digits_begin [] h = h
-digits_begin (c ∷ l) h = digit_class c h.0
+number_begin : (l : List ℕ) → IsNumber l → BeginsWith class.Digit l
+number_begin l h = let b = number_begins l h in subst (BeginsWith class.Digit) (sym b.2) (digit_class b.0 b.3)
 
 nested_begin : (l : List ℕ) → IsNestedComment l → BeginsWith class.Special l
 unfolding class_of class_of_char
@@ -64,7 +65,7 @@ begins NestedComment l r h = nested_begin l h
 begins SmallName l r h = h.0
 begins LargeName l r h = subst (BeginsWith class.Large) (sym h.2) (begins_append class.Large h.0 h.1 h.3.0)
 begins Operator l r h = h.0
-begins Number l r h = subst (BeginsWith class.Digit) (sym h.2) (begins_append class.Digit h.0 h.1 (digits_begin h.0 h.3))
+begins Number l r h = number_begin l h
 begins Quoted l r h = subst (BeginsWith class.Quote) (sym h.2) quote_class
 begins Special l r h = one_begins class.Special l h.0
 

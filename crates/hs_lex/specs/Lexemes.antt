@@ -7,6 +7,7 @@ use Rattle.hs_lex.specs.declared.class.Part.{Part}
 use Rattle.hs_lex.specs.declared.class.Part.TheVariants as part
 use Rattle.hs_lex.specs.Classes.{class_of, in_part}
 use Rattle.hs_lex.specs.Reading.{AllIn, Ends, Nothing}
+pub use Rattle.hs_lex.specs.Numbers.{Then, IsDigits, IsFraction, IsExponent, IsNumber, unsigned, is_sign, is_e}
 
 abbrev pub BeginsWith : Class → List ℕ → Type 0
 BeginsWith k [] = ⊥
@@ -94,35 +95,6 @@ IsPieces cs rest = (ps : List Piece) × AllByRecursion IsPiece ps × (cs ≡ fla
 
 abbrev pub IsText : List ℕ → Type 0
 IsText l = (ps : List Piece) × AllByRecursion IsPiece ps × (l ≡ 34 ∷ flat_map piece ps ++ 34 ∷ [])
-
--- a number: digits, a fraction or none, an exponent or none
-abbrev pub IsDigits : List ℕ → Type 0
-IsDigits [] = ⊥
-IsDigits (c ∷ cs) = AllIn part.Digit (c ∷ cs)
-
-abbrev pub IsFraction : List ℕ → Type 0
-IsFraction [] = Unit {0}
-IsFraction (c ∷ cs) = (c ≡ 46) × IsDigits cs
-
-abbrev pub is_sign : ℕ → Bool
-is_sign c = c == 43 || c == 45
-
-abbrev pub is_e : ℕ → Bool
-is_e c = c == 69 || c == 101
-
-abbrev pub unsigned : List ℕ → List ℕ
-unsigned [] = []
-unsigned (c ∷ cs) = if is_sign c then cs else c ∷ cs
-
-abbrev pub IsExponent : List ℕ → Type 0
-IsExponent [] = Unit {0}
-IsExponent (c ∷ cs) = (is_e c ≡ true) × IsDigits (unsigned cs)
-
-abbrev pub Then : (List ℕ → Type 0) → (List ℕ → Type 0) → List ℕ → Type 0
-Then L M l = (a b : List ℕ) × (l ≡ a ++ b) × L a × M b
-
-abbrev pub IsNumber : List ℕ → Type 0
-IsNumber = Then IsDigits (Then IsFraction IsExponent)
 
 -- the reserved words and operators
 abbrev pub IsReserved : List ℕ → Type 0

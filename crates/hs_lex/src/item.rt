@@ -59,7 +59,7 @@ pub fn item_at(bytes: &[u8]) -> Option<(Kind, &[u8])>
             None => None,
         },
         Class::Digit => match number_at(bytes) {
-            Some(rest) => Some((Kind::Number, rest)),
+            Some((_, rest)) => Some((Kind::Number, rest)),
             None => None,
         },
         Class::Symbol => {

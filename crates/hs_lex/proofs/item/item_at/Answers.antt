@@ -25,7 +25,7 @@ pub returns-in-None-large_name_at : goal.returns-in-None-large_name_at
 returns-in-None-large_name_at c = lone_none _ _ c.in-Some.c c.in-Some.ensures.is class.Large (sym c.class_of.ensures ∙ c.in-Large.is) refl c.in-None-large_name_at.ensures
 
 pub returns-in-Some-number_at : goal.returns-in-Some-number_at
-returns-in-Some-number_at c = lone_some _ _ c.in-Some.c c.in-Some.ensures.is class.Digit (sym c.class_of.ensures ∙ c.in-Digit.is) refl _ c.in-Some-number_at.ensures
+returns-in-Some-number_at c = lone_some _ _ c.in-Some.c c.in-Some.ensures.is class.Digit (sym c.class_of.ensures ∙ c.in-Digit.is) refl _ c.in-Some-number_at.ensures.0
 
 pub returns-in-None-number_at : goal.returns-in-None-number_at
 returns-in-None-number_at c = lone_none _ _ c.in-Some.c c.in-Some.ensures.is class.Digit (sym c.class_of.ensures ∙ c.in-Digit.is) refl c.in-None-number_at.ensures
