@@ -19,7 +19,7 @@ use Rattle.hs_lex.specs.Numbers.{IsMany, IsDigits, IsFraction, IsExponent, IsDec
 use Rattle.hs_lex.proofs.Sequence.{opt_end, opt_other, opt_none, opt_some, then_nothing, then_longest, then_text, reads_by}
 use Rattle.hs_lex.proofs.Runs.{run_is_longest, run_begins}
 
-many_all : (p : Part) (l r : List ℕ) → IsMany p l → AllIn p l
+pub many_all : (p : Part) (l r : List ℕ) → IsMany p l → AllIn p l
 many_all p [] r h = tt
 many_all p (c ∷ cs) r h = h
 

@@ -1,13 +1,13 @@
 -- White space, comments and lexemes.
 use Rattle.std.specs.Prelude.{◌≡◌, ◌≢◌, ◌⊎◌, ◌≤◌, ◌+◌, ◌-◌, ℕ, Bool, true, false, not, ◌==◌, ◌||◌, ◌&&◌, List, [], ◌∷◌, ◌++◌, length, if◌then◌else◌, codes}
-use Rattle.std.specs.List.{flat_map, AllByRecursion}
 use Rattle.hs_lex.specs.declared.class.Class.{Class}
 use Rattle.hs_lex.specs.declared.class.Class.TheVariants as class
 use Rattle.hs_lex.specs.declared.class.Part.{Part}
 use Rattle.hs_lex.specs.declared.class.Part.TheVariants as part
 use Rattle.hs_lex.specs.Classes.{class_of, in_part}
 use Rattle.hs_lex.specs.Reading.{AllIn, Ends, Nothing}
-pub use Rattle.hs_lex.specs.Numbers.{Then, IsDigits, IsFraction, IsExponent, IsNumber, unsigned, is_sign, is_e}
+pub use Rattle.hs_lex.specs.Numbers.{Then, IsNumber}
+pub use Rattle.hs_lex.specs.Quoted.{IsText, IsChar}
 
 abbrev pub BeginsWith : Class → List ℕ → Type 0
 BeginsWith k [] = ⊥
@@ -61,40 +61,6 @@ IsNestedComment (a ∷ b ∷ cs) = (a ≡ 123) × (b ≡ 45) × (closes 1 cs ≡
 
 abbrev pub IsSpecial : List ℕ → List ℕ → Type 0
 IsSpecial l rest = IsOne class.Special l × (l ≡ 123 ∷ [] → Ends part.Dash rest)
-
--- a string: quotes, and between them characters, escapes and gaps
-pub data Piece : Type 0 where
-  Plain : ℕ → Piece
-  Escape : ℕ → Piece
-  Gap : List ℕ → Piece
-
-abbrev pub piece : Piece → List ℕ
-piece (Plain c) = c ∷ []
-piece (Escape c) = 92 ∷ c ∷ []
-piece (Gap blanks) = 92 ∷ blanks ++ 92 ∷ []
-
--- n t " \ &
-abbrev pub is_escape : ℕ → Bool
-is_escape c = c == 110 || c == 116 || c == 34 || c == 92 || c == 38
-
-abbrev pub IsPiece : Piece → Type 0
-IsPiece (Plain c) = (in_part part.Comment c ≡ true) × (c ≢ 9) × (c ≢ 34) × (c ≢ 92)
-IsPiece (Escape c) = is_escape c ≡ true
-IsPiece (Gap blanks) = BeginsWith class.White blanks × AllIn part.White blanks
-
-abbrev pub IsPieceText : List ℕ → Type 0
-IsPieceText l = (p : Piece) × IsPiece p × (l ≡ piece p)
-
--- the part of a gap behind its first backslash
-abbrev pub IsGapTail : List ℕ → Type 0
-IsGapTail l = (blanks : List ℕ) × IsPiece (Gap blanks) × (l ≡ blanks ++ 92 ∷ [])
-
--- as many pieces as stand there
-abbrev pub IsPieces : List ℕ → List ℕ → Type 0
-IsPieces cs rest = (ps : List Piece) × AllByRecursion IsPiece ps × (cs ≡ flat_map piece ps ++ rest) × Nothing (λ l r. IsPieceText l) rest
-
-abbrev pub IsText : List ℕ → Type 0
-IsText l = (ps : List Piece) × AllByRecursion IsPiece ps × (l ≡ 34 ∷ flat_map piece ps ++ 34 ∷ [])
 
 -- the reserved words and operators
 abbrev pub IsReserved : List ℕ → Type 0
