@@ -8,7 +8,7 @@ use Rattle.hs_lex.specs.declared.class.Part.TheVariants as part
 use Rattle.hs_lex.specs.declared.class.Class.{Class}
 use Rattle.hs_lex.specs.declared.class.Class.TheVariants as class
 use Rattle.hs_lex.specs.declared.item.Kind.{Kind}
-use Rattle.hs_lex.specs.declared.item.Kind.TheVariants.{Blank, LineComment, NestedComment, SmallName, LargeName, Operator, Number, Quoted, Special}
+use Rattle.hs_lex.specs.declared.item.Kind.TheVariants.{Blank, LineComment, NestedComment, SmallName, LargeName, Operator, Number, Quoted, Char, Special}
 use Rattle.hs_lex.specs.Classes.{class_of, in_part}
 use Rattle.hs_lex.specs.Reading.{IsLongest, Nothing}
 use Rattle.hs_lex.specs.Numbers.{IsNumber}
@@ -30,6 +30,7 @@ first LargeName = class.Large
 first Operator = class.Symbol
 first Number = class.Digit
 first Quoted = class.Quote
+first Char = class.Tick
 first Special = class.Special
 
 begins_append : (k : Class) (l m : List ℕ) → BeginsWith k l → BeginsWith k (l ++ m)
@@ -58,6 +59,10 @@ quote_class : class_of 34 ≡ class.Quote
 unfolding class_of class_of_char
 quote_class = refl
 
+tick_class : class_of 39 ≡ class.Tick
+unfolding class_of class_of_char
+tick_class = refl
+
 pub begins : (k : Kind) (l r : List ℕ) → Is k l r → BeginsWith (first k) l
 begins Blank l r h = one_begins class.White l h
 begins LineComment l r h = subst (BeginsWith class.Symbol) (sym h.2) (begins_append class.Symbol h.0 h.1 (dashes_begin h.0 h.3))
@@ -67,6 +72,7 @@ begins LargeName l r h = subst (BeginsWith class.Large) (sym h.2) (begins_append
 begins Operator l r h = h.0
 begins Number l r h = number_begin l h
 begins Quoted l r h = subst (BeginsWith class.Quote) (sym h.2) quote_class
+begins Char l r h = subst (BeginsWith class.Tick) (sym h.1) tick_class
 begins Special l r h = one_begins class.Special l h.0
 
 -- classes with which one kind alone begins
@@ -83,7 +89,7 @@ kind_of class.Digit = Number
 kind_of class.Symbol = Operator
 kind_of class.Special = Special
 kind_of class.Quote = Quoted
-kind_of class.Tick = Blank
+kind_of class.Tick = Char
 kind_of class.Other = Blank
 
 only : (j : Kind) (k : Class) → first j ≡ k → lone k ≡ true → j ≡ kind_of k
@@ -95,6 +101,7 @@ only LargeName k e h = ap kind_of e
 only Operator k e h = absurd (false≢true (ap lone e ∙ h))
 only Number k e h = ap kind_of e
 only Quoted k e h = ap kind_of e
+only Char k e h = ap kind_of e
 only Special k e h = absurd (false≢true (ap lone e ∙ h))
 
 -- the class at the front
@@ -109,6 +116,7 @@ symbol_only NestedComment e = absurd (let k : ⊥ = cc in k)
 symbol_only SmallName e = absurd (let k : ⊥ = cc in k)
 symbol_only LargeName e = absurd (let k : ⊥ = cc in k)
 symbol_only Quoted e = absurd (let k : ⊥ = cc in k)
+symbol_only Char e = absurd (let k : ⊥ = cc in k)
 symbol_only Number e = absurd (let k : ⊥ = cc in k)
 symbol_only Special e = absurd (let k : ⊥ = cc in k)
 
@@ -121,6 +129,7 @@ special_only SmallName e = absurd (let k : ⊥ = cc in k)
 special_only LargeName e = absurd (let k : ⊥ = cc in k)
 special_only Operator e = absurd (let k : ⊥ = cc in k)
 special_only Quoted e = absurd (let k : ⊥ = cc in k)
+special_only Char e = absurd (let k : ⊥ = cc in k)
 special_only Number e = absurd (let k : ⊥ = cc in k)
 
 pub comment_not_operator : (t rest l r : List ℕ) → IsLineComment t rest → IsOperator l r → t ++ rest ≡ l ++ r → ⊥
@@ -204,22 +213,21 @@ module _ (cs next : List ℕ) (c : ℕ) (e : cs ≡ c ∷ next) where
   pub special_none : class_of c ≡ class.Special → Nothing (λ l r. IsNestedComment l) cs → Nothing IsSpecial cs → NoItem cs
   special_none q a b j l r x f = ⊎_elim (λ y. a l r y f) (λ y. b l r y f) (specials q j l r x f)
 
-  -- with these classes nothing begins
-  kindless : (j : Kind) → (first j ≡ class.Tick) ⊎ (first j ≡ class.Other) → ⊥
-  kindless Blank h = ⊎_elim (λ k. cc) (λ k. cc) h
-  kindless LineComment h = ⊎_elim (λ k. cc) (λ k. cc) h
-  kindless NestedComment h = ⊎_elim (λ k. cc) (λ k. cc) h
-  kindless SmallName h = ⊎_elim (λ k. cc) (λ k. cc) h
-  kindless LargeName h = ⊎_elim (λ k. cc) (λ k. cc) h
-  kindless Operator h = ⊎_elim (λ k. cc) (λ k. cc) h
-  kindless Number h = ⊎_elim (λ k. cc) (λ k. cc) h
-  kindless Quoted h = ⊎_elim (λ k. cc) (λ k. cc) h
-  kindless Special h = ⊎_elim (λ k. cc) (λ k. cc) h
+  -- with this class nothing begins
+  kindless : (j : Kind) → first j ≡ class.Other → ⊥
+  kindless Blank h = cc
+  kindless LineComment h = cc
+  kindless NestedComment h = cc
+  kindless SmallName h = cc
+  kindless LargeName h = cc
+  kindless Operator h = cc
+  kindless Number h = cc
+  kindless Quoted h = cc
+  kindless Char h = cc
+  kindless Special h = cc
 
-  pub none_begins : (class_of c ≡ class.Tick) ⊎ (class_of c ≡ class.Other) → NoItem cs
-  none_begins q j l r x f =
-      let a = at_front j cs next l r c e x f in
-      kindless j (⊎_elim (λ k. inl (a ∙ k)) (λ k. inr (a ∙ k)) q)
+  pub none_begins : class_of c ≡ class.Other → NoItem cs
+  none_begins q j l r x f = kindless j (at_front j cs next l r c e x f ∙ q)
 
 no_front : (k : Class) (l r : List ℕ) → BeginsWith k l → [] ≡ l ++ r → ⊥
 no_front k [] r h e = h

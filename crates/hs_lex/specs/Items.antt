@@ -3,9 +3,9 @@ use Rattle.std.specs.Prelude.{◌≡◌, ◌≢◌, ◌≤◌, ◌+◌, ℕ, Boo
 use Rattle.source_text.specs.Characters.{characters, span}
 use Rattle.hs_lex.specs.declared.class.Class.TheVariants as class
 use Rattle.hs_lex.specs.declared.item.Kind.{Kind}
-use Rattle.hs_lex.specs.declared.item.Kind.TheVariants.{Blank, LineComment, NestedComment, SmallName, LargeName, Operator, Number, Quoted, Special}
+use Rattle.hs_lex.specs.declared.item.Kind.TheVariants.{Blank, LineComment, NestedComment, SmallName, LargeName, Operator, Number, Quoted, Char, Special}
 use Rattle.hs_lex.specs.declared.item.Token.{Token}
-use Rattle.hs_lex.specs.Lexemes.{IsOne, IsName, IsOperator, IsLineComment, IsNestedComment, IsNumber, IsText, IsSpecial, IsLargeName}
+use Rattle.hs_lex.specs.Lexemes.{IsOne, IsName, IsOperator, IsLineComment, IsNestedComment, IsNumber, IsText, IsChar, IsSpecial, IsLargeName}
 
 -- the text is of the kind where rest follows
 abbrev pub Is : Kind → List ℕ → List ℕ → Type 0
@@ -17,6 +17,7 @@ Is LargeName l rest = IsLargeName l rest
 Is Operator l rest = IsOperator l rest
 Is Number l rest = IsNumber l
 Is Quoted l rest = IsText l
+Is Char l rest = IsChar l
 Is Special l rest = IsSpecial l rest
 
 -- The text is the longest that stands there, of any kind.

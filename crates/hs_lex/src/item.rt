@@ -3,6 +3,7 @@ ghost use Rattle.std.specs.Prelude.{◌≡◌, List, ℕ, MatchOption};
 ghost use Rattle.source_text.specs.Characters.{characters};
 ghost use Rattle.hs_lex.specs.Items.{IsItem, NoItem, is_lexeme};
 
+use crate::char_literal::char_at;
 use crate::class::{Class, class_of};
 use crate::name::{large_name_at, small_at};
 use crate::nested::nested_comment_at;
@@ -21,6 +22,7 @@ pub enum Kind {
     Operator,
     Number,
     Quoted,
+    Char,
     Special,
 }
 
@@ -84,7 +86,10 @@ pub fn item_at(bytes: &[u8]) -> Option<(Kind, &[u8])>
             Some(rest) => Some((Kind::Quoted, rest)),
             None => None,
         },
-        Class::Tick => None,
+        Class::Tick => match char_at(bytes) {
+            Some(rest) => Some((Kind::Char, rest)),
+            None => None,
+        },
         Class::Other => None,
     }
 }
