@@ -326,3 +326,19 @@ decimal_begins l h = digit_front h.0 h.1 h.2 h.3
 pub number_begins : (l : List ℕ) → IsNumber l → (c : ℕ) × (m : List ℕ) × (l ≡ c ∷ m) × (in_part part.Digit c ≡ true)
 unfolding in_part
 number_begins l h = ⊎_elim (decimal_begins l) (λ m. ⊎_elim (λ o. (48, o.0 ∷ o.1, o.2, refl)) (λ x. (48, x.0 ∷ x.1, x.2, refl)) m) (split h.0 l h.1)
+
+-- no text has two forms
+decimal_apart : (l d t : List ℕ) → IsDigits l → l ≡ d ++ t → Then IsFraction IsExponent t → (t ≡ [] → ⊥) → ⊥
+decimal_apart l d [] h e f some = some refl
+decimal_apart l d (c ∷ t) h e f some = no_digit c (fraction_first t c f) (digits_go_on d t c (subst IsDigits e h))
+
+marked_apart : (b : Base) (l : List ℕ) → IsMarked b l → IsFloat l → ⊥
+marked_apart b l h f = omega (arith, decimal_short b h.0 h.1 l [] h.3 (from_float l f) (append-nil l ∙ h.2), ap length h.2)
+
+pub forms_apart : (l : List ℕ) → IsNumberOf Integer l → IsNumberOf Float l → ⊥
+forms_apart l h f = by_base h.0 h.1
+  where
+    by_base : (b : Base) → IsInteger b l → ⊥
+    by_base Decimal d = decimal_apart l f.0 (f.1 ++ f.2) d f.3 (f.1, f.2, refl, f.5, f.6) f.7
+    by_base Octal d = marked_apart Octal l d f
+    by_base Hexadecimal d = marked_apart Hexadecimal l d f

@@ -1,13 +1,13 @@
 //! What a source is made of.
 ghost use Rattle.std.specs.Prelude.{◌≡◌, List, ℕ, MatchOption};
 ghost use Rattle.source_text.specs.Characters.{characters};
-ghost use Rattle.hs_lex.specs.Items.{IsItem, NoItem, is_lexeme};
+ghost use Rattle.hs_lex.specs.Items.{IsItem, NoItem, is_lexeme, number_kind};
 
 use crate::char_literal::char_at;
 use crate::class::{Class, class_of};
 use crate::name::{large_name_at, small_at};
 use crate::nested::nested_comment_at;
-use crate::number::number_at;
+use crate::number::{Form, number_at};
 use crate::quoted::text_at;
 use crate::sign::{line_comment_at, operator_at, special_at};
 use source_text::character::next_char;
@@ -21,6 +21,7 @@ pub enum Kind {
     LargeName,
     Operator,
     Number,
+    Fraction,
     Quoted,
     Char,
     Special,
@@ -43,6 +44,15 @@ pub fn is_lexeme(kind: Kind) -> bool
     }
 }
 
+fn number_kind(form: Form) -> Kind
+    ensures { result ≡ number_kind form }
+{
+    match form {
+        Form::Integer => Kind::Number,
+        Form::Float => Kind::Fraction,
+    }
+}
+
 /// What stands at the front: white space, a comment or a lexeme, and what follows it.
 pub fn item_at(bytes: &[u8]) -> Option<(Kind, &[u8])>
     ensures { MatchOption result (NoItem (characters bytes.now)) (λ p. (text : List ℕ) × IsItem p.0 text (characters bytes.now) (characters p.1.now)) }
@@ -61,7 +71,7 @@ pub fn item_at(bytes: &[u8]) -> Option<(Kind, &[u8])>
             None => None,
         },
         Class::Digit => match number_at(bytes) {
-            Some((_, rest)) => Some((Kind::Number, rest)),
+            Some((form, rest)) => Some((number_kind(form), rest)),
             None => None,
         },
         Class::Symbol => {
