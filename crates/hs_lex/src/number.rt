@@ -92,18 +92,18 @@ fn signed_at(bytes: &[u8]) -> Option<&[u8]>
 }
 
 /// What follows an exponent, or nothing.
-fn exponent_at(bytes: &[u8]) -> &[u8]
-    ensures { IsLongest (λ l r. IsExponent l) (characters bytes.now) (characters result.now) }
+fn exponent_at(start: &[u8]) -> &[u8]
+    ensures { IsLongest (λ l r. IsExponent l) (characters start.now) (characters result.now) }
 {
-    let Some((c, after)) = next_char(bytes) else {
-        return bytes;
+    let Some((c, after)) = next_char(start) else {
+        return start;
     };
     if !is_e(c) {
-        return bytes;
+        return start;
     }
     match signed_at(after) {
         Some(rest) => rest,
-        None => bytes,
+        None => start,
     }
 }
 
