@@ -1,11 +1,11 @@
 -- White space, comments and lexemes.
-use Rattle.std.specs.Prelude.{◌≡◌, ◌≢◌, ◌⊎◌, ◌≤◌, ◌+◌, ◌-◌, ℕ, Bool, true, false, not, ◌==◌, ◌||◌, ◌&&◌, List, [], ◌∷◌, ◌++◌, length, if◌then◌else◌, codes}
+use Rattle.std.specs.Prelude.{◌≡◌, ◌⊎◌, ◌≤◌, ◌+◌, ◌-◌, ℕ, Bool, true, false, not, ◌==◌, ◌||◌, ◌&&◌, List, [], ◌∷◌, ◌++◌, length, if◌then◌else◌, codes}
 use Rattle.hs_lex.specs.declared.class.Class.{Class}
 use Rattle.hs_lex.specs.declared.class.Class.TheVariants as class
 use Rattle.hs_lex.specs.declared.class.Part.{Part}
 use Rattle.hs_lex.specs.declared.class.Part.TheVariants as part
-use Rattle.hs_lex.specs.Classes.{class_of, in_part}
-use Rattle.hs_lex.specs.Reading.{AllIn, Ends, Nothing}
+use Rattle.hs_lex.specs.Classes.{class_of}
+use Rattle.hs_lex.specs.Reading.{AllIn, Ends}
 pub use Rattle.hs_lex.specs.Numbers.{Then, IsNumber}
 pub use Rattle.hs_lex.specs.Quoted.{IsText, IsChar}
 
