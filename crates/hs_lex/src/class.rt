@@ -87,12 +87,14 @@ fn is_white(class: Class) -> bool
     }
 }
 
+/// Whether a code is a character of Unicode, and no surrogate nor what an ill-formed byte reads as.
 pub fn is_character(c: u32) -> bool
     ensures { result ≡ is_character c }
 {
     c < 0xd800 || (c >= 0xe000 && c < 0x11_0000)
 }
 
+/// Whether a character is of the general category Control.
 pub fn is_control(c: u32) -> bool
     ensures { result ≡ is_control c }
 {

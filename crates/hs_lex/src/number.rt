@@ -23,7 +23,7 @@ pub enum Form {
     Float,
 }
 
-/// What digits of the base are.
+/// The part of the digits of a base.
 pub fn digits_of(base: Base) -> Part
     ensures { result ≡ digits_of base }
 {
