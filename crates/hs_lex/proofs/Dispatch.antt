@@ -8,11 +8,15 @@ use Rattle.hs_lex.specs.declared.class.Part.TheVariants as part
 use Rattle.hs_lex.specs.declared.class.Class.{Class}
 use Rattle.hs_lex.specs.declared.class.Class.TheVariants as class
 use Rattle.hs_lex.specs.declared.item.Kind.{Kind}
-use Rattle.hs_lex.specs.declared.item.Kind.TheVariants.{Blank, LineComment, NestedComment, SmallName, LargeName, Operator, Number, Quoted, Special}
+use Rattle.hs_lex.specs.declared.item.Kind.TheVariants.{Blank, LineComment, NestedComment, SmallName, LargeName, Operator, Number, Fraction, Quoted, Char, Special}
 use Rattle.hs_lex.specs.Classes.{class_of, in_part}
 use Rattle.hs_lex.specs.Reading.{IsLongest, Nothing}
-use Rattle.hs_lex.specs.Lexemes.{BeginsWith, IsDigits, IsDashes, IsNestedComment, IsSpecial, IsLineComment, IsOperator}
-use Rattle.hs_lex.specs.Items.{Is, IsItem, NoItem}
+use Rattle.hs_lex.specs.declared.number.Form.{Form}
+use Rattle.hs_lex.specs.declared.number.Form.TheVariants.{Integer, Float}
+use Rattle.hs_lex.specs.Numbers.{IsNumber, IsNumberOf}
+use Rattle.hs_lex.specs.Lexemes.{BeginsWith, IsDashes, IsNestedComment, IsSpecial, IsLineComment, IsOperator}
+use Rattle.hs_lex.specs.Items.{Is, IsItem, NoItem, number_kind}
+use Rattle.hs_lex.proofs.Numbers.{number_begins, forms_apart}
 use Rattle.hs_lex.proofs.Plain.{same_class}
 use Rattle.hs_lex.proofs.Runs.{same_run}
 use Rattle.hs_lex.proofs.Sequence.{shorter}
@@ -27,7 +31,9 @@ first SmallName = class.Small
 first LargeName = class.Large
 first Operator = class.Symbol
 first Number = class.Digit
+first Fraction = class.Digit
 first Quoted = class.Quote
+first Char = class.Tick
 first Special = class.Special
 
 begins_append : (k : Class) (l m : List ℕ) → BeginsWith k l → BeginsWith k (l ++ m)
@@ -43,9 +49,8 @@ digit_class : (c : ℕ) → in_part part.Digit c ≡ true → class_of c ≡ cla
 unfolding in_part class_of class_of_char
 digit_class c h = grind (arith, nat_tests)
 
-digits_begin : (l : List ℕ) → IsDigits l → BeginsWith class.Digit l
-digits_begin [] h = h
-digits_begin (c ∷ l) h = digit_class c h.0
+number_begin : (l : List ℕ) → IsNumber l → BeginsWith class.Digit l
+number_begin l h = let b = number_begins l h in subst (BeginsWith class.Digit) (sym b.2) (digit_class b.0 b.3)
 
 nested_begin : (l : List ℕ) → IsNestedComment l → BeginsWith class.Special l
 unfolding class_of class_of_char
@@ -57,6 +62,10 @@ quote_class : class_of 34 ≡ class.Quote
 unfolding class_of class_of_char
 quote_class = refl
 
+tick_class : class_of 39 ≡ class.Tick
+unfolding class_of class_of_char
+tick_class = refl
+
 pub begins : (k : Kind) (l r : List ℕ) → Is k l r → BeginsWith (first k) l
 begins Blank l r h = one_begins class.White l h
 begins LineComment l r h = subst (BeginsWith class.Symbol) (sym h.2) (begins_append class.Symbol h.0 h.1 (dashes_begin h.0 h.3))
@@ -64,12 +73,15 @@ begins NestedComment l r h = nested_begin l h
 begins SmallName l r h = h.0
 begins LargeName l r h = subst (BeginsWith class.Large) (sym h.2) (begins_append class.Large h.0 h.1 h.3.0)
 begins Operator l r h = h.0
-begins Number l r h = subst (BeginsWith class.Digit) (sym h.2) (begins_append class.Digit h.0 h.1 (digits_begin h.0 h.3))
+begins Number l r h = number_begin l (Integer, h)
+begins Fraction l r h = number_begin l (Float, h)
 begins Quoted l r h = subst (BeginsWith class.Quote) (sym h.2) quote_class
+begins Char l r h = subst (BeginsWith class.Tick) (sym h.1) tick_class
 begins Special l r h = one_begins class.Special l h.0
 
 -- classes with which one kind alone begins
 abbrev pub lone : Class → Bool
+lone class.Digit = false
 lone class.Symbol = false
 lone class.Special = false
 lone _ = true
@@ -82,7 +94,7 @@ kind_of class.Digit = Number
 kind_of class.Symbol = Operator
 kind_of class.Special = Special
 kind_of class.Quote = Quoted
-kind_of class.Tick = Blank
+kind_of class.Tick = Char
 kind_of class.Other = Blank
 
 only : (j : Kind) (k : Class) → first j ≡ k → lone k ≡ true → j ≡ kind_of k
@@ -92,8 +104,10 @@ only NestedComment k e h = absurd (false≢true (ap lone e ∙ h))
 only SmallName k e h = ap kind_of e
 only LargeName k e h = ap kind_of e
 only Operator k e h = absurd (false≢true (ap lone e ∙ h))
-only Number k e h = ap kind_of e
+only Number k e h = absurd (false≢true (ap lone e ∙ h))
+only Fraction k e h = absurd (false≢true (ap lone e ∙ h))
 only Quoted k e h = ap kind_of e
+only Char k e h = ap kind_of e
 only Special k e h = absurd (false≢true (ap lone e ∙ h))
 
 -- the class at the front
@@ -108,6 +122,8 @@ symbol_only NestedComment e = absurd (let k : ⊥ = cc in k)
 symbol_only SmallName e = absurd (let k : ⊥ = cc in k)
 symbol_only LargeName e = absurd (let k : ⊥ = cc in k)
 symbol_only Quoted e = absurd (let k : ⊥ = cc in k)
+symbol_only Char e = absurd (let k : ⊥ = cc in k)
+symbol_only Fraction e = absurd (let k : ⊥ = cc in k)
 symbol_only Number e = absurd (let k : ⊥ = cc in k)
 symbol_only Special e = absurd (let k : ⊥ = cc in k)
 
@@ -120,7 +136,22 @@ special_only SmallName e = absurd (let k : ⊥ = cc in k)
 special_only LargeName e = absurd (let k : ⊥ = cc in k)
 special_only Operator e = absurd (let k : ⊥ = cc in k)
 special_only Quoted e = absurd (let k : ⊥ = cc in k)
+special_only Char e = absurd (let k : ⊥ = cc in k)
+special_only Fraction e = absurd (let k : ⊥ = cc in k)
 special_only Number e = absurd (let k : ⊥ = cc in k)
+
+digit_only : (j : Kind) → first j ≡ class.Digit → (j ≡ Number) ⊎ (j ≡ Fraction)
+digit_only Number e = inl refl
+digit_only Fraction e = inr refl
+digit_only Blank e = absurd (let k : ⊥ = cc in k)
+digit_only LineComment e = absurd (let k : ⊥ = cc in k)
+digit_only NestedComment e = absurd (let k : ⊥ = cc in k)
+digit_only SmallName e = absurd (let k : ⊥ = cc in k)
+digit_only LargeName e = absurd (let k : ⊥ = cc in k)
+digit_only Operator e = absurd (let k : ⊥ = cc in k)
+digit_only Quoted e = absurd (let k : ⊥ = cc in k)
+digit_only Char e = absurd (let k : ⊥ = cc in k)
+digit_only Special e = absurd (let k : ⊥ = cc in k)
 
 pub comment_not_operator : (t rest l r : List ℕ) → IsLineComment t rest → IsOperator l r → t ++ rest ≡ l ++ r → ⊥
 comment_not_operator t rest l r x o e =
@@ -203,22 +234,42 @@ module _ (cs next : List ℕ) (c : ℕ) (e : cs ≡ c ∷ next) where
   pub special_none : class_of c ≡ class.Special → Nothing (λ l r. IsNestedComment l) cs → Nothing IsSpecial cs → NoItem cs
   special_none q a b j l r x f = ⊎_elim (λ y. a l r y f) (λ y. b l r y f) (specials q j l r x f)
 
-  -- with these classes nothing begins
-  kindless : (j : Kind) → (first j ≡ class.Tick) ⊎ (first j ≡ class.Other) → ⊥
-  kindless Blank h = ⊎_elim (λ k. cc) (λ k. cc) h
-  kindless LineComment h = ⊎_elim (λ k. cc) (λ k. cc) h
-  kindless NestedComment h = ⊎_elim (λ k. cc) (λ k. cc) h
-  kindless SmallName h = ⊎_elim (λ k. cc) (λ k. cc) h
-  kindless LargeName h = ⊎_elim (λ k. cc) (λ k. cc) h
-  kindless Operator h = ⊎_elim (λ k. cc) (λ k. cc) h
-  kindless Number h = ⊎_elim (λ k. cc) (λ k. cc) h
-  kindless Quoted h = ⊎_elim (λ k. cc) (λ k. cc) h
-  kindless Special h = ⊎_elim (λ k. cc) (λ k. cc) h
+  numbers : class_of c ≡ class.Digit → (j : Kind) (l r : List ℕ) → Is j l r → cs ≡ l ++ r → IsNumber l
+  numbers q j l r x f = ⊎_elim (λ k. (Integer, subst (λ z. Is z l r) k x)) (λ k. (Float, subst (λ z. Is z l r) k x)) (digit_only j (at_front j cs next l r c e x f ∙ q))
 
-  pub none_begins : (class_of c ≡ class.Tick) ⊎ (class_of c ≡ class.Other) → NoItem cs
-  none_begins q j l r x f =
-      let a = at_front j cs next l r c e x f in
-      kindless j (⊎_elim (λ k. inl (a ∙ k)) (λ k. inr (a ∙ k)) q)
+  pub number_item : class_of c ≡ class.Digit → (form : Form) (k : Kind) → k ≡ number_kind form → (rest : List ℕ) → ((h : IsLongest (λ l r. IsNumber l) cs rest) × IsNumberOf form h.text) → (text : List ℕ) × IsItem k text cs rest
+  number_item q form k d rest h = (
+    h.0.text,
+    record {
+      front = h.0.front;
+      is = subst (λ z. Is z h.0.text rest) (sym d) (of_form form h.0.text rest h.1);
+      longest = λ j l r x f. h.0.longest l r (numbers q j l r x f) f;
+    },
+  )
+    where
+      of_form : (form : Form) (l r : List ℕ) → IsNumberOf form l → Is (number_kind form) l r
+      of_form Integer l r x = x
+      of_form Float l r x = x
+
+  pub number_none : class_of c ≡ class.Digit → Nothing (λ l r. IsNumber l) cs → NoItem cs
+  number_none q never j l r x f = never l r (numbers q j l r x f) f
+
+  -- with this class nothing begins
+  kindless : (j : Kind) → first j ≡ class.Other → ⊥
+  kindless Blank h = cc
+  kindless LineComment h = cc
+  kindless NestedComment h = cc
+  kindless SmallName h = cc
+  kindless LargeName h = cc
+  kindless Operator h = cc
+  kindless Number h = cc
+  kindless Fraction h = cc
+  kindless Quoted h = cc
+  kindless Char h = cc
+  kindless Special h = cc
+
+  pub none_begins : class_of c ≡ class.Other → NoItem cs
+  none_begins q j l r x f = kindless j (at_front j cs next l r c e x f ∙ q)
 
 no_front : (k : Class) (l r : List ℕ) → BeginsWith k l → [] ≡ l ++ r → ⊥
 no_front k [] r h e = h
@@ -255,13 +306,19 @@ one_kind k j l r x y c next e = by_class (class_of c) refl
         (λ a. ⊎_elim (λ b. absurd (omega (arith, nested_long l (subst (λ z. Is z l r) b y), special_short l r (subst (λ z. Is z l r) a x)))) (λ b. a ∙ sym b) (special_only j (fj ∙ h)))
         (special_only k (fk ∙ h))
 
+    by_digit : class_of c ≡ class.Digit → k ≡ j
+    by_digit h = ⊎_elim
+        (λ a. ⊎_elim (λ b. a ∙ sym b) (λ b. absurd (forms_apart l (subst (λ z. Is z l r) a x) (subst (λ z. Is z l r) b y))) (digit_only j (fj ∙ h)))
+        (λ a. ⊎_elim (λ b. absurd (forms_apart l (subst (λ z. Is z l r) b y) (subst (λ z. Is z l r) a x))) (λ b. a ∙ sym b) (digit_only j (fj ∙ h)))
+        (digit_only k (fk ∙ h))
+
     by_class : (q : Class) → class_of c ≡ q → k ≡ j
     by_class class.Symbol h = by_symbol h
     by_class class.Special h = by_special h
     by_class class.White h = alone class.White h refl
     by_class class.Small h = alone class.Small h refl
     by_class class.Large h = alone class.Large h refl
-    by_class class.Digit h = alone class.Digit h refl
+    by_class class.Digit h = by_digit h
     by_class class.Quote h = alone class.Quote h refl
     by_class class.Tick h = alone class.Tick h refl
     by_class class.Other h = alone class.Other h refl

@@ -69,6 +69,10 @@ module _ (L M : List ℕ → Type 0) (apart : (a t : List ℕ) (c : ℕ) → L a
         omega (arith, by_tail cs mid rest x y h.0 h.1 r s.0 h.3 h.4 whole s.1 s.2, ap length h.2, length-append h.0 h.1, length-append x.text y.text);
   }
 
+  pub then_text : (cs mid rest : List ℕ) (x : IsLongest (λ l r. L l) cs mid) (y : IsLongest (λ l r. M l) mid rest) → (then_longest cs mid rest x y).text ≡ x.text ++ y.text
+  unfolding then_longest
+  then_text cs mid rest x y = refl
+
 -- an answer about one language, as one about another
 pub reads_by : (L M : List ℕ → List ℕ → Type 0) (cs ds : List ℕ) (answer : Option (Bor (List ℕ))) → ((rest : List ℕ) → IsLongest L cs rest → IsLongest M ds rest) → (Nothing L cs → Nothing M ds)
     → Reads L cs answer → Reads M ds answer

@@ -60,5 +60,7 @@ in_part part.Name c = in_name (class_of c)
 in_part part.Symbol c = in_symbol (class_of c)
 in_part part.White c = in_white (class_of c)
 in_part part.Digit c = between 48 57 c
+in_part part.Octal c = between 48 55 c
+in_part part.Hexadecimal c = between 48 57 c || (between 65 70 c || between 97 102 c)
 in_part part.Dash c = c == 45
 in_part part.Comment c = c == 9 || (is_character c && not (is_control c))

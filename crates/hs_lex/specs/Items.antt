@@ -2,8 +2,11 @@
 use Rattle.std.specs.Prelude.{◌≡◌, ◌≤◌, ℕ, Bool, true, false, List, [], ◌∷◌, ◌++◌, length}
 use Rattle.hs_lex.specs.declared.class.Class.TheVariants as class
 use Rattle.hs_lex.specs.declared.item.Kind.{Kind}
-use Rattle.hs_lex.specs.declared.item.Kind.TheVariants.{Blank, LineComment, NestedComment, SmallName, LargeName, Operator, Number, Quoted, Special}
-use Rattle.hs_lex.specs.Lexemes.{IsOne, IsName, IsOperator, IsLineComment, IsNestedComment, IsNumber, IsText, IsSpecial, IsLargeName}
+use Rattle.hs_lex.specs.declared.item.Kind.TheVariants.{Blank, LineComment, NestedComment, SmallName, LargeName, Operator, Number, Fraction, Quoted, Char, Special}
+use Rattle.hs_lex.specs.declared.number.Form.{Form}
+use Rattle.hs_lex.specs.declared.number.Form.TheVariants.{Integer, Float}
+use Rattle.hs_lex.specs.Numbers.{IsNumberOf}
+use Rattle.hs_lex.specs.Lexemes.{IsOne, IsName, IsOperator, IsLineComment, IsNestedComment, IsText, IsChar, IsSpecial, IsLargeName}
 
 -- the text is of the kind where rest follows
 abbrev pub Is : Kind → List ℕ → List ℕ → Type 0
@@ -13,9 +16,16 @@ Is NestedComment l rest = IsNestedComment l
 Is SmallName l rest = IsName class.Small l rest
 Is LargeName l rest = IsLargeName l rest
 Is Operator l rest = IsOperator l rest
-Is Number l rest = IsNumber l
+Is Number l rest = IsNumberOf Integer l
+Is Fraction l rest = IsNumberOf Float l
 Is Quoted l rest = IsText l
+Is Char l rest = IsChar l
 Is Special l rest = IsSpecial l rest
+
+-- the kind of a number: one with a fraction or an exponent is a fraction
+abbrev pub number_kind : Form → Kind
+number_kind Integer = Number
+number_kind Float = Fraction
 
 -- The text is the longest that stands there, of any kind.
 pub record IsItem (k : Kind) (text cs rest : List ℕ) : Type 0 where

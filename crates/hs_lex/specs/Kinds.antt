@@ -1,13 +1,12 @@
 -- The kinds of lexemes (Haskell 2010 Report, section 2.2).
-use Rattle.std.specs.Prelude.{ℕ, Bool, true, false, ◌==◌, ◌||◌, ◌&&◌, List, [], ◌∷◌, Option, Some, None, if◌then◌else◌}
+use Rattle.std.specs.Prelude.{ℕ, Bool, true, false, ◌==◌, List, [], ◌∷◌, Option, Some, None, if◌then◌else◌}
 use Rattle.hs_syntax.specs.declared.token.TokenKind.{TokenKind}
 use Rattle.hs_syntax.specs.declared.token.TokenKind.TheVariants as token
 use Rattle.hs_lex.specs.declared.class.Class.{Class}
 use Rattle.hs_lex.specs.declared.class.Class.TheVariants as class
-use Rattle.hs_lex.specs.declared.class.Part.TheVariants as part
 use Rattle.hs_lex.specs.declared.item.Kind.{Kind}
-use Rattle.hs_lex.specs.declared.item.Kind.TheVariants.{Blank, LineComment, NestedComment, SmallName, LargeName, Operator, Number, Quoted, Special}
-use Rattle.hs_lex.specs.Classes.{class_of, in_part}
+use Rattle.hs_lex.specs.declared.item.Kind.TheVariants.{Blank, LineComment, NestedComment, SmallName, LargeName, Operator, Number, Fraction, Quoted, Char, Special}
+use Rattle.hs_lex.specs.Classes.{class_of}
 use Rattle.hs_lex.specs.Words.{is_word, is_operator_word}
 
 abbrev pub begins_with : ℕ → List ℕ → Bool
@@ -37,30 +36,15 @@ unfoldable pub large_kind : TokenKind → List ℕ → TokenKind
 large_kind k [] = k
 large_kind k (c ∷ cs) = if c == 46 then or_else (last_kind_at cs) (large_kind token.QConId cs) else large_kind k cs
 
-abbrev pub is_base : ℕ → Bool
-is_base c = c == 120 || (c == 88 || (c == 111 || c == 79))
-
--- 0x, 0X, 0o or 0O
-abbrev pub has_base : List ℕ → Bool
-has_base [] = false
-has_base (c ∷ []) = false
-has_base (c ∷ d ∷ cs) = c == 48 && is_base d
-
-unfoldable pub all_digits : List ℕ → Bool
-all_digits [] = true
-all_digits (c ∷ cs) = in_part part.Digit c && all_digits cs
-
--- a number without fraction and exponent
-abbrev pub is_integer : List ℕ → Bool
-is_integer l = has_base l || all_digits l
-
 -- the kind of the lexeme that an item is; a comment that counts is a pragma
 abbrev pub kind_of : Kind → List ℕ → TokenKind
 kind_of SmallName l = if is_word l then token.Word else token.VarId
 kind_of LargeName l = large_kind token.ConId l
 kind_of Operator l = if is_operator_word l then token.WordOp else (if begins_with 58 l then token.ConSym else token.VarSym)
-kind_of Number l = if is_integer l then token.Number else token.Fraction
+kind_of Number l = token.Number
+kind_of Fraction l = token.Fraction
 kind_of Quoted l = token.Text
+kind_of Char l = token.Char
 kind_of Special l = token.Special
 kind_of NestedComment l = token.Pragma
 kind_of LineComment l = token.Pragma

@@ -1,13 +1,14 @@
 -- White space, comments and lexemes.
-use Rattle.std.specs.Prelude.{◌≡◌, ◌≢◌, ◌⊎◌, ◌≤◌, ◌+◌, ◌-◌, ℕ, Bool, true, false, ◌==◌, ◌||◌, ◌&&◌, List, [], ◌∷◌, ◌++◌, length, if◌then◌else◌}
-use Rattle.std.specs.List.{flat_map, AllByRecursion}
+use Rattle.std.specs.Prelude.{◌≡◌, ◌⊎◌, ◌≤◌, ◌+◌, ◌-◌, ℕ, Bool, true, false, ◌==◌, ◌||◌, ◌&&◌, List, [], ◌∷◌, ◌++◌, length, if◌then◌else◌}
 use Rattle.hs_lex.specs.declared.class.Class.{Class}
 use Rattle.hs_lex.specs.declared.class.Class.TheVariants as class
 use Rattle.hs_lex.specs.declared.class.Part.{Part}
 use Rattle.hs_lex.specs.declared.class.Part.TheVariants as part
-use Rattle.hs_lex.specs.Classes.{class_of, in_part, is_inside}
-use Rattle.hs_lex.specs.Reading.{AllIn, Ends, Nothing}
+use Rattle.hs_lex.specs.Classes.{class_of, is_inside}
+use Rattle.hs_lex.specs.Reading.{AllIn, Ends}
 use Rattle.hs_lex.specs.Words.{is_reserved}
+pub use Rattle.hs_lex.specs.Numbers.{Then, IsNumber}
+pub use Rattle.hs_lex.specs.Quoted.{IsText, IsChar}
 
 abbrev pub BeginsWith : Class → List ℕ → Type 0
 BeginsWith k [] = ⊥
@@ -62,68 +63,6 @@ IsNestedComment (a ∷ b ∷ cs) = (a ≡ 123) × (b ≡ 45) × (closes 1 cs ≡
 abbrev pub IsSpecial : List ℕ → List ℕ → Type 0
 IsSpecial l rest = IsOne class.Special l × (l ≡ 123 ∷ [] → Ends part.Dash rest)
 
--- a string: quotes, and between them characters, escapes and gaps
-pub data Piece : Type 0 where
-  Plain : ℕ → Piece
-  Escape : ℕ → Piece
-  Gap : List ℕ → Piece
-
-abbrev pub piece : Piece → List ℕ
-piece (Plain c) = c ∷ []
-piece (Escape c) = 92 ∷ c ∷ []
-piece (Gap blanks) = 92 ∷ blanks ++ 92 ∷ []
-
--- n t " \ &
-abbrev pub is_escape : ℕ → Bool
-is_escape c = c == 110 || c == 116 || c == 34 || c == 92 || c == 38
-
-abbrev pub IsPiece : Piece → Type 0
-IsPiece (Plain c) = (in_part part.Comment c ≡ true) × (c ≢ 9) × (c ≢ 34) × (c ≢ 92)
-IsPiece (Escape c) = is_escape c ≡ true
-IsPiece (Gap blanks) = BeginsWith class.White blanks × AllIn part.White blanks
-
-abbrev pub IsPieceText : List ℕ → Type 0
-IsPieceText l = (p : Piece) × IsPiece p × (l ≡ piece p)
-
--- the part of a gap behind its first backslash
-abbrev pub IsGapTail : List ℕ → Type 0
-IsGapTail l = (blanks : List ℕ) × IsPiece (Gap blanks) × (l ≡ blanks ++ 92 ∷ [])
-
--- as many pieces as stand there
-abbrev pub IsPieces : List ℕ → List ℕ → Type 0
-IsPieces cs rest = (ps : List Piece) × AllByRecursion IsPiece ps × (cs ≡ flat_map piece ps ++ rest) × Nothing (λ l r. IsPieceText l) rest
-
-abbrev pub IsText : List ℕ → Type 0
-IsText l = (ps : List Piece) × AllByRecursion IsPiece ps × (l ≡ 34 ∷ flat_map piece ps ++ 34 ∷ [])
-
--- a number: digits, a fraction or none, an exponent or none
-abbrev pub IsDigits : List ℕ → Type 0
-IsDigits [] = ⊥
-IsDigits (c ∷ cs) = AllIn part.Digit (c ∷ cs)
-
-abbrev pub IsFraction : List ℕ → Type 0
-IsFraction [] = Unit {0}
-IsFraction (c ∷ cs) = (c ≡ 46) × IsDigits cs
-
-abbrev pub is_sign : ℕ → Bool
-is_sign c = c == 43 || c == 45
-
-abbrev pub is_e : ℕ → Bool
-is_e c = c == 69 || c == 101
-
-abbrev pub unsigned : List ℕ → List ℕ
-unsigned [] = []
-unsigned (c ∷ cs) = if is_sign c then cs else c ∷ cs
-
-abbrev pub IsExponent : List ℕ → Type 0
-IsExponent [] = Unit {0}
-IsExponent (c ∷ cs) = (is_e c ≡ true) × IsDigits (unsigned cs)
-
-abbrev pub Then : (List ℕ → Type 0) → (List ℕ → Type 0) → List ℕ → Type 0
-Then L M l = (a b : List ℕ) × (l ≡ a ++ b) × L a × M b
-
-abbrev pub IsNumber : List ℕ → Type 0
-IsNumber = Then IsDigits (Then IsFraction IsExponent)
 
 -- a small name or an operator, taken whole and not reserved
 abbrev pub IsPlain : List ℕ → List ℕ → Type 0

@@ -54,6 +54,8 @@ pub enum Part {
     Symbol,
     White,
     Digit,
+    Octal,
+    Hexadecimal,
     Dash,
     Comment,
 }
@@ -85,13 +87,15 @@ fn is_white(class: Class) -> bool
     }
 }
 
-fn is_character(c: u32) -> bool
+/// Whether a code is a character of Unicode, and no surrogate nor what an ill-formed byte reads as.
+pub fn is_character(c: u32) -> bool
     ensures { result ≡ is_character c }
 {
     c < 0xd800 || (c >= 0xe000 && c < 0x11_0000)
 }
 
-fn is_control(c: u32) -> bool
+/// Whether a character is of the general category Control.
+pub fn is_control(c: u32) -> bool
     ensures { result ≡ is_control c }
 {
     c < 32 || (c >= 127 && c <= 159)
@@ -115,6 +119,9 @@ pub fn is_in(part: Part, c: u32) -> bool
         Part::Symbol => is_symbol(class_of(c)),
         Part::White => is_white(class_of(c)),
         Part::Digit => c >= 48 && c <= 57,
+        Part::Octal => c >= 48 && c <= 55,
+        Part::Hexadecimal => (c >= 48 && c <= 57)
+            || ((c >= 65 && c <= 70) || (c >= 97 && c <= 102)),
         Part::Dash => c == 45,
         Part::Comment => c == 9 || (is_character(c) && !is_control(c)),
     }

@@ -1,12 +1,13 @@
 //! What a source is made of.
 ghost use Rattle.std.specs.Prelude.{◌≡◌, List, ℕ, MatchOption};
 ghost use Rattle.source_text.specs.Characters.{characters};
-ghost use Rattle.hs_lex.specs.Items.{IsItem, NoItem, is_lexeme};
+ghost use Rattle.hs_lex.specs.Items.{IsItem, NoItem, is_lexeme, number_kind};
 
+use crate::char_literal::char_at;
 use crate::class::{Class, class_of};
 use crate::name::{large_name_at, small_at};
 use crate::nested::nested_comment_at;
-use crate::number::number_at;
+use crate::number::{Form, number_at};
 use crate::quoted::text_at;
 use crate::sign::{line_comment_at, operator_at, special_at};
 use source_text::character::next_char;
@@ -21,7 +22,9 @@ pub enum Kind {
     LargeName,
     Operator,
     Number,
+    Fraction,
     Quoted,
+    Char,
     Special,
 }
 
@@ -32,6 +35,15 @@ pub fn is_lexeme(kind: Kind) -> bool
     match kind {
         Kind::Blank | Kind::LineComment | Kind::NestedComment => false,
         _ => true,
+    }
+}
+
+fn number_kind(form: Form) -> Kind
+    ensures { result ≡ number_kind form }
+{
+    match form {
+        Form::Integer => Kind::Number,
+        Form::Float => Kind::Fraction,
     }
 }
 
@@ -53,7 +65,7 @@ pub fn item_at(bytes: &[u8]) -> Option<(Kind, &[u8])>
             None => None,
         },
         Class::Digit => match number_at(bytes) {
-            Some(rest) => Some((Kind::Number, rest)),
+            Some((form, rest)) => Some((number_kind(form), rest)),
             None => None,
         },
         Class::Symbol => {
@@ -78,7 +90,10 @@ pub fn item_at(bytes: &[u8]) -> Option<(Kind, &[u8])>
             Some(rest) => Some((Kind::Quoted, rest)),
             None => None,
         },
-        Class::Tick => None,
+        Class::Tick => match char_at(bytes) {
+            Some(rest) => Some((Kind::Char, rest)),
+            None => None,
+        },
         Class::Other => None,
     }
 }

@@ -2,26 +2,18 @@
 ghost use Rattle.std.specs.Prelude.{◌≡◌, ◌↔◌, IsTrue};
 ghost use Rattle.source_text.specs.Characters.{characters};
 ghost use Rattle.hs_lex.specs.Reading.{Reads};
-ghost use Rattle.hs_lex.specs.Lexemes.{Plain, IsPiece, IsPieceText, IsGapTail, IsPieces, IsText, is_escape};
+ghost use Rattle.hs_lex.specs.Quoted.{IsPlain, IsPieceText, IsGapTail, IsPieces, IsText};
 
-use crate::class::{Part, is_in};
+use crate::class::{Part, is_character, is_control};
+use crate::escape::escape_at;
 use crate::run::run;
 use crate::sign::begins;
 use source_text::character::next_char;
 
 fn is_plain(c: u32) -> bool
-    ensures { IsTrue result ↔ IsPiece (Plain c) }
+    ensures { IsTrue result ↔ IsPlain c }
 {
-    is_in(Part::Comment, c) && c != 9 && c != 34 && c != 92
-}
-
-fn is_escape(c: u32) -> bool
-    ensures { result ≡ is_escape c }
-{
-    match c {
-        110 | 116 | 34 | 92 | 38 => true,
-        _ => false,
-    }
+    is_character(c) && !is_control(c) && c != 34 && c != 92
 }
 
 /// What follows white space and a backslash.
@@ -43,7 +35,7 @@ fn gap_at(bytes: &[u8]) -> Option<&[u8]>
 
 /// What follows one piece of a string: a character, an escape or a gap.
 fn piece_at(bytes: &[u8]) -> Option<&[u8]>
-    ensures { Reads (λ l r. IsPieceText l) (characters bytes.now) result }
+    ensures { Reads IsPieceText (characters bytes.now) result }
 {
     let Some((c, after)) = next_char(bytes) else {
         return None;
@@ -54,11 +46,8 @@ fn piece_at(bytes: &[u8]) -> Option<&[u8]>
     if c != 92 {
         return None;
     }
-    let Some((d, behind)) = next_char(after) else {
-        return None;
-    };
-    if is_escape(d) {
-        return Some(behind);
+    if let Some(rest) = escape_at(after) {
+        return Some(rest);
     }
     gap_at(after)
 }
@@ -74,7 +63,9 @@ fn pieces(bytes: &[u8]) -> &[u8]
     rest
 }
 
-/// What follows a string.
+/// What follows a string (Haskell 2010 Report, section 2.6). None where no string stands there.
+///
+/// A gap may hold any white space, also newlines; outside of gaps no control character stands in a string.
 pub fn text_at(bytes: &[u8]) -> Option<&[u8]>
     ensures { Reads (λ l r. IsText l) (characters bytes.now) result }
 {

@@ -2,11 +2,10 @@
 ghost use Rattle.std.specs.Prelude.{◌≡◌};
 ghost use Rattle.source_text.specs.Characters.{characters};
 ghost use Rattle.hs_syntax.specs.declared.token.TokenKind.TheVariants as token;
-ghost use Rattle.hs_lex.specs.Kinds.{begins_with, has_base, all_digits, last_kind_at, large_kind, kind_of, is_base};
+ghost use Rattle.hs_lex.specs.Kinds.{begins_with, last_kind_at, large_kind, kind_of};
 
-use crate::class::{Class, Part, class_of};
+use crate::class::{Class, class_of};
 use crate::item::Kind;
-use crate::run::run;
 use crate::words::{is_operator_word, is_word};
 use hs_syntax::token::TokenKind;
 use source_text::character::next_char;
@@ -59,32 +58,6 @@ fn large_kind(text: &[u8]) -> TokenKind
     kind
 }
 
-fn is_base(c: u32) -> bool
-    ensures { result ≡ is_base c }
-{
-    c == 120 || (c == 88 || (c == 111 || c == 79))
-}
-
-/// Whether a number begins with the mark of octal or hexadecimal digits.
-fn has_base(text: &[u8]) -> bool
-    ensures { result ≡ has_base (characters text.now) }
-{
-    let Some((c, after)) = next_char(text) else {
-        return false;
-    };
-    match next_char(after) {
-        Some((d, _)) => c == 48 && is_base(d),
-        None => false,
-    }
-}
-
-/// Whether a text is of ASCII digits alone.
-fn all_digits(text: &[u8]) -> bool
-    ensures { result ≡ all_digits (characters text.now) }
-{
-    run(Part::Digit, text).is_empty()
-}
-
 /// The kind of the lexeme that an item with this text is.
 pub fn kind_of(kind: Kind, text: &[u8]) -> TokenKind
     ensures { result ≡ kind_of kind (characters text.now) }
@@ -108,14 +81,10 @@ pub fn kind_of(kind: Kind, text: &[u8]) -> TokenKind
                 TokenKind::VarSym
             }
         }
-        Kind::Number => {
-            if has_base(text) || all_digits(text) {
-                TokenKind::Number
-            } else {
-                TokenKind::Fraction
-            }
-        }
+        Kind::Number => TokenKind::Number,
+        Kind::Fraction => TokenKind::Fraction,
         Kind::Quoted => TokenKind::Text,
+        Kind::Char => TokenKind::Char,
         Kind::Special => TokenKind::Special,
         Kind::NestedComment | Kind::LineComment | Kind::Blank => TokenKind::Pragma,
     }

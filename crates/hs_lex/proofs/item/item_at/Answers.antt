@@ -1,6 +1,6 @@
-use Rattle.std.proofs.Common.{inl, inr, sym, ◌∙◌, refl}
+use Rattle.std.proofs.Common.{sym, ◌∙◌, refl}
 use Rattle.hs_lex.specs.declared.class.Class.TheVariants as class
-use Rattle.hs_lex.proofs.Dispatch.{lone_some, lone_none, comment_item, operator_item, symbol_none, nested_item, special_item, special_none, none_begins, end_none}
+use Rattle.hs_lex.proofs.Dispatch.{lone_some, lone_none, comment_item, operator_item, symbol_none, nested_item, special_item, special_none, number_item, number_none, none_begins, end_none}
 use Rattle.hs_lex.proofs.Specials.{one_some}
 use Rattle.hs_lex.proofs.item.item_at.Goals as goal
 
@@ -25,10 +25,10 @@ pub returns-in-None-large_name_at : goal.returns-in-None-large_name_at
 returns-in-None-large_name_at c = lone_none _ _ c.in-Some.c c.in-Some.ensures.is class.Large (sym c.class_of.ensures ∙ c.in-Large.is) refl c.in-None-large_name_at.ensures
 
 pub returns-in-Some-number_at : goal.returns-in-Some-number_at
-returns-in-Some-number_at c = lone_some _ _ c.in-Some.c c.in-Some.ensures.is class.Digit (sym c.class_of.ensures ∙ c.in-Digit.is) refl _ c.in-Some-number_at.ensures
+returns-in-Some-number_at c = number_item _ _ c.in-Some.c c.in-Some.ensures.is (sym c.class_of.ensures ∙ c.in-Digit.is) _ _ c.number_kind.ensures _ c.in-Some-number_at.ensures
 
 pub returns-in-None-number_at : goal.returns-in-None-number_at
-returns-in-None-number_at c = lone_none _ _ c.in-Some.c c.in-Some.ensures.is class.Digit (sym c.class_of.ensures ∙ c.in-Digit.is) refl c.in-None-number_at.ensures
+returns-in-None-number_at c = number_none _ _ c.in-Some.c c.in-Some.ensures.is (sym c.class_of.ensures ∙ c.in-Digit.is) c.in-None-number_at.ensures
 
 pub returns-in-Some-line_comment_at : goal.returns-in-Some-line_comment_at
 returns-in-Some-line_comment_at c = comment_item _ _ c.in-Some.c c.in-Some.ensures.is (sym c.class_of.ensures ∙ c.in-Symbol.is) _ c.in-Some-line_comment_at.ensures
@@ -54,8 +54,11 @@ returns-in-Some-text_at c = lone_some _ _ c.in-Some.c c.in-Some.ensures.is class
 pub returns-in-None-text_at : goal.returns-in-None-text_at
 returns-in-None-text_at c = lone_none _ _ c.in-Some.c c.in-Some.ensures.is class.Quote (sym c.class_of.ensures ∙ c.in-Quote.is) refl c.in-None-text_at.ensures
 
-pub returns-in-Tick : goal.returns-in-Tick
-returns-in-Tick c = none_begins _ _ c.in-Some.c c.in-Some.ensures.is (inl (sym c.class_of.ensures ∙ c.in-Tick.is))
+pub returns-in-Some-char_at : goal.returns-in-Some-char_at
+returns-in-Some-char_at c = lone_some _ _ c.in-Some.c c.in-Some.ensures.is class.Tick (sym c.class_of.ensures ∙ c.in-Tick.is) refl _ c.in-Some-char_at.ensures
+
+pub returns-in-None-char_at : goal.returns-in-None-char_at
+returns-in-None-char_at c = lone_none _ _ c.in-Some.c c.in-Some.ensures.is class.Tick (sym c.class_of.ensures ∙ c.in-Tick.is) refl c.in-None-char_at.ensures
 
 pub returns-in-Other : goal.returns-in-Other
-returns-in-Other c = none_begins _ _ c.in-Some.c c.in-Some.ensures.is (inr (sym c.class_of.ensures ∙ c.in-Other.is))
+returns-in-Other c = none_begins _ _ c.in-Some.c c.in-Some.ensures.is (sym c.class_of.ensures ∙ c.in-Other.is)
