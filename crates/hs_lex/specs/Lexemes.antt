@@ -63,7 +63,6 @@ IsNestedComment (a ∷ b ∷ cs) = (a ≡ 123) × (b ≡ 45) × (closes 1 cs ≡
 abbrev pub IsSpecial : List ℕ → List ℕ → Type 0
 IsSpecial l rest = IsOne class.Special l × (l ≡ 123 ∷ [] → Ends part.Dash rest)
 
-
 -- a small name or an operator, taken whole and not reserved
 abbrev pub IsPlain : List ℕ → List ℕ → Type 0
 IsPlain l rest = (IsName class.Small l rest ⊎ IsOperator l rest) × (is_reserved l ≡ false)

@@ -261,8 +261,17 @@ fn comments_and_places(rt: HostRuntime) {
 /// Numbers and strings.
 #[test]
 fn literals(rt: HostRuntime) {
-    const ROWS: [(&[u8], &[Row]); 14] = [
+    const ROWS: [(&[u8], &[Row]); 17] = [
         (b"12", &[(Number, b"12", 1, 1)]),
+        (
+            b"0x1F 0o17",
+            &[(Number, b"0x1F", 1, 1), (Number, b"0o17", 1, 6)],
+        ),
+        (
+            b"'a' '\\''",
+            &[(Char, b"'a'", 1, 1), (Char, b"'\\''", 1, 5)],
+        ),
+        (b"f'x' 'x'", &[(VarId, b"f'x'", 1, 1), (Char, b"'x'", 1, 6)]),
         (b"1.5", &[(Fraction, b"1.5", 1, 1)]),
         (b"1e5", &[(Fraction, b"1e5", 1, 1)]),
         (
@@ -444,8 +453,10 @@ fn source_pragmas(rt: HostRuntime) {
 /// Where nothing begins.
 #[test]
 fn faults(rt: HostRuntime) {
-    const ROWS: [(&[u8], u32, u32); 18] = [
+    const ROWS: [(&[u8], u32, u32); 20] = [
         (b"x{- a", 1, 2),
+        (b" '\\x110000'", 1, 2),
+        (b"'\\SO\\&H'", 1, 1),
         (b"{-}", 1, 1),
         (b"a {- {- -} ", 1, 3),
         (b"-- \xff", 1, 1),
