@@ -1,11 +1,12 @@
 -- How many bytes characters take, and that well-formed ones are their bytes.
 use Rattle.std.specs.Prelude.{◌==◌, encode_utf8, encode_utf8_all}
 use Rattle.std.specs.Char.{IsScalar}
-use Rattle.std.proofs.Common.{◌≡◌, ◌≢◌, ◌⊎◌, inl, inr, ⊎_elim, ℕ, zero, suc, ◌+◌, ◌-◌, ◌<◌, ◌≤◌, false, List, [], ◌∷◌, ◌++◌, length, take, drop, Some, None, refl, ap, sym, ◌∙◌, subst, arith, length-drop, length-append}
+use Rattle.std.proofs.Common.{◌≡◌, ◌≢◌, ◌⊎◌, inl, inr, ⊎_elim, ℕ, zero, suc, ◌+◌, ◌-◌, ◌<◌, ◌≤◌, false, List, [], ◌∷◌, ◌++◌, length, take, drop, Some, None, refl, ap, sym, ◌∙◌, subst, arith, length-drop, length-append, append_assoc}
 use Rattle.std.specs.declared.option.Option.{Option}
-use Rattle.std.proofs.lemmas.List.{drop-drop}
+use Rattle.std.proofs.lemmas.List.{drop-drop, take-append-drop}
 use Rattle.std.proofs.lemmas.Bool.{cond-false, eqb-true, cases_Bool, false≢true}
-use Rattle.bstr.specs.Utf8.{decoded}
+use Rattle.bstr.specs.Utf8.{Decoded, decoded}
+use Rattle.bstr.proofs.lemmas.EncodeLemmas.{decoded-encode}
 use Rattle.bstr.proofs.lemmas.PieceLemmas.{piece-bounds}
 use Rattle.bstr.proofs.lemmas.SoundLemmas.{SpellsChar-decoded}
 use Rattle.source_text.specs.Characters.{characters, no_character, AllCharacters, width, span}
@@ -13,7 +14,7 @@ use Rattle.source_text.proofs.Characters.{good, bad, none}
 
 -- the first character of some bytes, with its own bytes
 IsGood : List ℕ → ℕ → List ℕ → Type 0
-IsGood bs c rest = (bs ≡ encode_utf8 c ++ rest) × (characters bs ≡ c ∷ characters rest) × (0 < length (encode_utf8 c)) × (c ≢ no_character)
+IsGood bs c rest = (bs ≡ encode_utf8 c ++ rest) × (characters bs ≡ c ∷ characters rest) × (0 < length (encode_utf8 c)) × (c ≢ no_character) × IsScalar c
 
 IsBad : List ℕ → List ℕ → Type 0
 IsBad bs rest = (length bs ≡ 1 + length rest) × (characters bs ≡ no_character ∷ characters rest) × ((n : ℕ) → drop (1 + n) bs ≡ drop n rest)
@@ -25,7 +26,7 @@ first_by : (bs : List ℕ) (o : Option ℕ) → 0 < length bs → (decoded bs).c
 unfolding IsGood IsBad
 first_by bs (Some c) h e =
     let s = SpellsChar-decoded bs c e in
-    inl (c, drop (decoded bs).size bs, (s.bytes, good bs c h e, omega (arith, s.width, (piece-bounds bs h).0), not_none c s.scalar))
+    inl (c, drop (decoded bs).size bs, (s.bytes, good bs c h e, omega (arith, s.width, (piece-bounds bs h).0), not_none c s.scalar, s.scalar))
 first_by bs None h e = inr (drop 1 bs, (omega (arith, length-drop 1 bs), bad bs h e, λ n. sym (drop-drop n 1 bs)))
 
 first : (bs : List ℕ) → 0 < length bs → ((c : ℕ) × (rest : List ℕ) × IsGood bs c rest) ⊎ ((rest : List ℕ) × IsBad bs rest)
@@ -116,3 +117,45 @@ drop_span (c ∷ l) from rest e = ⊎_elim
     let next : characters d.0 ≡ l ++ rest = let f = d.1.1 in cc in
     ap (λ x. characters (drop (width x + span l) from)) (sym same) ∙ ap characters (d.1.2 (span l)) ∙ drop_span l d.0 rest next)
     (first from (filled from (l ++ rest) c e))
+
+-- what spells a character reads as it, whatever follows
+pub reads_first : (c : ℕ) (rest : List ℕ) → IsScalar c → 0 < length (encode_utf8 c) → characters (encode_utf8 c ++ rest) ≡ c ∷ characters rest
+reads_first c rest h n =
+    let w = encode_utf8 c in
+    let d = decoded-encode c rest h in
+    let size : (decoded (w ++ rest)).size ≡ length w + 0 = ap (λ (p : Decoded). p.size) d ∙ (let k : length w ≡ length w + 0 = omega arith in k) in
+    good (w ++ rest) c (omega (arith, length-append w rest)) (ap (λ (p : Decoded). p.char) d) ∙ ap (λ n. c ∷ characters (drop n (w ++ rest))) size ∙ ap (λ t. c ∷ characters t) (drop_over w rest 0)
+
+-- an ill-formed byte stays one where what follows is cut
+bad_front : (b : ℕ) (bs : List ℕ) (n : ℕ) → characters (b ∷ bs) ≡ no_character ∷ characters bs → characters (b ∷ take n bs) ≡ no_character ∷ characters (take n bs)
+unfolding IsGood IsBad
+bad_front b bs n e = ⊎_elim
+    (λ g.
+    let whole : b ∷ bs ≡ encode_utf8 g.0 ++ (g.1 ++ drop n bs) = ap (λ t. b ∷ t) (sym (take-append-drop n bs)) ∙ ap (λ t. t ++ drop n bs) g.2.0 ∙ append_assoc (encode_utf8 g.0) g.1 (drop n bs) in
+    let k : no_character ∷ characters bs ≡ g.0 ∷ characters (g.1 ++ drop n bs) = sym e ∙ ap characters whole ∙ reads_first g.0 (g.1 ++ drop n bs) g.2.4 g.2.2 in
+    absurd (g.2.3 (let q : g.0 ≡ no_character = cc in q)))
+    (λ d. d.1.1 ∙ ap (λ t. no_character ∷ characters t) (sym (d.1.2 0)))
+    (first (b ∷ take n bs) (omega arith))
+
+-- where characters lead from one place to another, the bytes between read as they
+pub text_reads : (l from to : List ℕ) → characters from ≡ l ++ characters to → characters (take (length from - length to) from) ≡ l
+unfolding IsGood IsBad
+text_reads [] from to e = ap (λ n. characters (take n from)) (let k : length from - length to ≡ 0 = omega (arith, same_length from to e) in k) ∙ none
+text_reads (c ∷ l) [] to e = let k = sym none ∙ e in cc
+text_reads (c ∷ l) (b ∷ bs) to e = ⊎_elim
+    (λ g.
+    let same : g.0 ≡ c = let f = g.2.1 in cc in
+    let next : characters g.1 ≡ l ++ characters to = let f = g.2.1 in cc in
+    let w = encode_utf8 g.0 in
+    let n = length g.1 - length to in
+    let count : length (b ∷ bs) - length to ≡ length w + n = omega (arith, ap length g.2.0, length-append w g.1, longer l g.1 to next) in
+    ap (λ n. characters (take n (b ∷ bs))) count ∙ ap (λ t. characters (take (length w + n) t)) g.2.0 ∙ ap characters (take_over w g.1 n) ∙ reads_first g.0 (take n g.1) g.2.4 g.2.2 ∙ ap (λ t. g.0 ∷ t) (text_reads l g.1 to next) ∙ ap (λ x. x ∷ l) same)
+    (λ d.
+    let tail : bs ≡ d.0 = d.1.2 0 in
+    let front : characters (b ∷ bs) ≡ no_character ∷ characters bs = d.1.1 ∙ ap (λ t. no_character ∷ characters t) (sym tail) in
+    let same : no_character ≡ c = cc in
+    let next : characters bs ≡ l ++ characters to = cc in
+    let n = length bs - length to in
+    let count : length (b ∷ bs) - length to ≡ suc n = omega (arith, longer l bs to next) in
+    ap (λ n. characters (take n (b ∷ bs))) count ∙ bad_front b bs n front ∙ ap (λ t. no_character ∷ t) (text_reads l bs to next) ∙ ap (λ x. x ∷ l) same)
+    (first (b ∷ bs) (omega arith))

@@ -1,5 +1,5 @@
 //! One character at a time.
-ghost use Rattle.std.specs.Prelude.{◌≡◌, ◌<◌, ◌∷◌, [], ◌++◌, List, ℕ, length, encode_utf8_all, MatchOption, IfSome};
+ghost use Rattle.std.specs.Prelude.{◌≡◌, ◌<◌, ◌≤◌, ◌-◌, ◌∷◌, [], ◌++◌, List, ℕ, length, take, encode_utf8_all, MatchOption, IfSome};
 ghost use Rattle.source_text.specs.Characters.{characters, AllCharacters};
 
 /// What a byte reads as with which no well-formed character begins.
@@ -19,10 +19,12 @@ pub fn next_char(bytes: &[u8]) -> Option<(u32, &[u8])>
     }
 }
 
-/// The bytes from one place to another, between which only characters stand.
+/// The bytes from one place to a later one of the same source: what was read between them.
 pub fn text_between<'a>(from: &'a [u8], to: &[u8]) -> &'a [u8]
-    requires { (l : List ℕ) × (characters from.now ≡ l ++ characters to.now) × AllCharacters l }
-    ensures { (l : List ℕ) → characters from.now ≡ l ++ characters to.now → AllCharacters l → result.now ≡ encode_utf8_all l }
+    requires { length to.now ≤ length from.now }
+    ensures bytes { result.now ≡ take (length from.now - length to.now) from.now }
+    ensures reads { (l : List ℕ) → characters from.now ≡ l ++ characters to.now → characters result.now ≡ l }
+    ensures spelled { (l : List ℕ) → characters from.now ≡ l ++ characters to.now → AllCharacters l → result.now ≡ encode_utf8_all l }
 {
     &from[..from.len() - to.len()]
 }

@@ -53,7 +53,9 @@ pub fn step(place: Place, c: u32) -> Place
 pub fn advance(place: Place, text: &[u8]) -> Place
     requires line { place.line + length text.now + 1 < 2 ^ 32 }
     requires column { place.column + 8 * length text.now + 8 < 2 ^ 32 }
-    ensures { result ≡ after place (characters text.now) }
+    ensures is { result ≡ after place (characters text.now) }
+    ensures line { result.line ≤ place.line + length text.now }
+    ensures column { result.column ≤ place.column + 8 * length text.now }
 {
     let mut at = place;
     let mut rest = text;

@@ -1,8 +1,8 @@
-use Rattle.source_text.proofs.Widths.{text_bytes, ends_before}
+use Rattle.source_text.proofs.Widths.{text_bytes, text_reads}
 use Rattle.source_text.proofs.character.text_between.Goals as goal
 
-pub returns : goal.returns
-returns c = λ l e h. text_bytes l _ _ e h
+pub returns-clause-reads : goal.returns-clause-reads
+returns-clause-reads c = λ l e. text_reads l _ _ e
 
-pub slice_bounds-result-count : goal.slice_bounds-result-count
-slice_bounds-result-count c = ends_before c.requires.0 _ _ c.requires.1
+pub returns-clause-spelled : goal.returns-clause-spelled
+returns-clause-spelled c = λ l e h. text_bytes l _ _ e h

@@ -9,5 +9,5 @@ loop-c-preserved c = record {
   column = omega (arith, c.in-Some.ensures.less, c.step-at.ensures.column);
 }
 
-pub returns : goal.returns
-returns c = sym (nothing _ _ c.in_default.ensures.is) ∙ c.loop-c.invariant.same
+pub returns-clause-is : goal.returns-clause-is
+returns-clause-is c = sym (nothing _ _ c.in_default.ensures.is) ∙ c.loop-c.invariant.same
