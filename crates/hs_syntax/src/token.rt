@@ -101,3 +101,44 @@ impl Plain for Token {
         })
     }
 }
+
+#[cfg(test)]
+mod tests {
+    use super::*;
+
+    #[test]
+    fn tokens_are_copied_and_told_apart(rt: HostRuntime) {
+        let alloc = rt.alloc();
+        let Ok(text) = Text::from_slice(alloc, b"where") else {
+            assert!(rt; false);
+            return;
+        };
+        let at = Pos { line: 2, col: 5 };
+        let word = Token {
+            kind: TokenKind::Word,
+            text,
+            start: 12,
+            end: 17,
+            at,
+            put: false,
+            sign: None,
+        };
+        let sign = Token {
+            kind: TokenKind::Special,
+            text: Text::new(alloc),
+            start: 17,
+            end: 17,
+            at,
+            put: true,
+            sign: Some(PutSign::Open),
+        };
+        assert!(rt; !word.same(&sign));
+        match (word.copy(alloc), sign.copy(alloc)) {
+            (Ok(second), Ok(other)) => {
+                assert!(rt; second.same(&word));
+                assert!(rt; other.same(&sign));
+            }
+            _ => assert!(rt; false),
+        }
+    }
+}
