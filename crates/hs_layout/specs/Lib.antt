@@ -1,0 +1,5 @@
+pub mod Roles
+pub mod Frames
+pub mod Looks
+pub mod Rules
+pub mod Follows
