@@ -50,10 +50,6 @@ abbrev pub down_to : Target → List Frame → Step
 down_to t [] = stay []
 down_to t (f ∷ fs) = down_past (look_at t f) f fs (down_to t fs)
 
--- the same where there is such a frame; else nothing is done
-abbrev pub reach : Target → List Frame → Step
-reach t fs = if reaches t fs then down_to t fs else stay fs
-
 -- the indentation and the context that hold where these frames are open
 abbrev pub indentation : List Frame → ℕ
 indentation [] = 0
@@ -90,6 +86,11 @@ is_context _ = false
 abbrev pub renew : Bool → List Frame → List Frame
 renew keep [] = []
 renew keep (f ∷ fs) = renewed keep f ∷ (if is_context f.sort then fs else renew keep fs)
+
+-- frames back on top of others, the first lowest
+abbrev pub onto : List Frame → List Frame → List Frame
+onto [] fs = fs
+onto (h ∷ hs) fs = onto hs (h ∷ fs)
 
 -- <n>, Report section 10.3
 abbrev pub is_level : ℕ → List Frame → Bool
