@@ -3,3 +3,4 @@ pub mod Frames
 pub mod Looks
 pub mod Rules
 pub mod Follows
+pub mod Braced

@@ -36,7 +36,7 @@ fn close(frames: &mut Stack<Frame>, signs: &mut Vec<PutSign>) -> Result<(), NoMe
 }
 
 /// Closes the frames above the one that is looked for.
-fn down_to(
+pub fn down_to(
     target: Target,
     frames: &mut Stack<Frame>,
     signs: &mut Vec<PutSign>,
