@@ -1,2 +1,4 @@
 pub mod Stacks
 pub mod Closing
+pub mod Own
+pub mod Balance

@@ -4,3 +4,4 @@ pub mod Looks
 pub mod Rules
 pub mod Follows
 pub mod Braced
+pub mod Source

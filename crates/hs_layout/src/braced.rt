@@ -5,9 +5,9 @@ ghost use Rattle.hs_layout.specs.Roles.{role_of};
 ghost use Rattle.hs_layout.specs.Braced.{bars_opening, opening_at, at_mark, is_semicolon, ends_in_semicolon, behind_semicolon, marked, before, opener, is_semicolon_role, behind_token, state_behind, spot_of, put_token, pieces, after, at_last, at_end, braced};
 
 use crate::frame::{Context, Frame};
+use crate::look::Target;
 use crate::role::{Role, is_branch, role_of};
 use crate::rules::{at_lexeme, at_line, at_opening, behind_lexeme, down_to, renew};
-use crate::look::Target;
 use crate::stack::Stack;
 use crate::state::{Spot, State, newlines, start};
 use hs_syntax::token::{PutSign, Token, TokenKind};

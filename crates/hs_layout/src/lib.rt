@@ -3,8 +3,11 @@
 
 pub mod braced;
 pub mod frame;
+pub mod laws;
 pub mod look;
 pub mod role;
 pub mod rules;
 pub mod stack;
 pub mod state;
+#[cfg(test)]
+mod tests;

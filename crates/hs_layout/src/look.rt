@@ -127,7 +127,11 @@ fn look_note(note: Note, frame: &Frame) -> Look
     if has(note, &frame.notes) {
         return Look::Here;
     }
-    if is_put(frame) { Look::On } else { Look::Nowhere }
+    if is_put(frame) {
+        Look::On
+    } else {
+        Look::Nowhere
+    }
 }
 
 /// Looks for the frame to which a comma belongs.
