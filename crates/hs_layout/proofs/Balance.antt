@@ -65,7 +65,7 @@ closes true n = refl
 closes false n = refl
 
 past : (l : Look) (f : Frame) (fs : List Frame) (s : Step) → Sound fs s → Sound (f ∷ fs) (down_past l f fs s)
-unfolding Sound, blocks
+unfolding Sound blocks
 past On f fs s h = level_append (closing f) s.puts (blocks (f ∷ fs)) (blocks fs) (closes (is_put f) (blocks fs)) ∙ h
 past Here f fs s h = refl
 past Nowhere f fs s h = refl
@@ -117,7 +117,7 @@ line_sound : (n : ℕ) (keep : Bool) (fs : List Frame) → Sound fs (at_line n k
 line_sound n keep fs = then_sound fs (down_to (target.Deeper n) fs) (punctuate n keep) (down_sound (target.Deeper n) fs) (punctuate_sound n keep (down_to (target.Deeper n) fs).frames)
 
 opens_one : (c : Context) (n : ℕ) (fs : List Frame) → is_block c ≡ true → Sound fs (record { puts = Open ∷ []; frames = frame sort.Context c n ∷ fs })
-unfolding Sound, blocks
+unfolding Sound blocks
 opens_one c n fs h = ap (λ z. Some (if z then suc (blocks fs) else blocks fs)) (sym h)
 
 opens_none : (fs : List Frame) → Sound fs (record { puts = Open ∷ Close ∷ []; frames = fs })
@@ -245,7 +245,7 @@ part true st st2 x a p q = p
 part false st st2 x a p q = q
 
 lexeme_leads : (st : State) (t : Token) (r : Role) → OpensBlock st.opens → t.put ≡ false → Leads st (map (put_token (spot_of t)) (before st t r).puts ++ t ∷ []) (state_behind st t r)
-unfolding Leads, Sound
+unfolding Leads Sound
 lexeme_leads st t r o h =
     (ap (λ z. level (blocks st.frames) z) (signs_lexeme (spot_of t) (before st t r).puts t h) ∙ before_sound st t r o ∙ ap Some (sym (same_behind r (before st t r).frames)), opener_is r)
 
