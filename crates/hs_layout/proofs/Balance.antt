@@ -1,5 +1,5 @@
 -- The braces that are put balance.
-use Rattle.std.specs.Prelude.{map, if◌then◌else◌, nat_lt, nat_eq, ◌&&◌, Option, Some, None}
+use Rattle.std.specs.Prelude.{map, if◌then◌else◌, nat_lt, Option, Some, None}
 use Rattle.std.proofs.Common.{◌≡◌, ℕ, zero, suc, Bool, true, false, List, [], ◌∷◌, ◌++◌, refl, ap, sym, ◌∙◌, append_assoc}
 use Rattle.std.proofs.lemmas.List.{append-nil}
 use Rattle.hs_syntax.specs.declared.token.Token.{Token}
@@ -8,7 +8,6 @@ use Rattle.hs_syntax.specs.declared.token.PutSign.TheVariants.{Open, Semicolon, 
 use Rattle.hs_layout.specs.declared.role.Role.{Role}
 use Rattle.hs_layout.specs.declared.role.Role.TheVariants as role
 use Rattle.hs_layout.specs.declared.frame.Context.{Context}
-use Rattle.hs_layout.specs.declared.frame.Context.TheVariants as context
 use Rattle.hs_layout.specs.declared.frame.Sort.TheVariants as sort
 use Rattle.hs_layout.specs.declared.frame.Note.{Note}
 use Rattle.hs_layout.specs.declared.frame.Note.TheVariants as note
@@ -22,7 +21,7 @@ use Rattle.hs_layout.specs.declared.state.State.{State}
 use Rattle.hs_layout.specs.Roles.{role_of, is_branch}
 use Rattle.hs_layout.specs.Frames.{is_block, is_put}
 use Rattle.hs_layout.specs.Looks.{look_at, reaches}
-use Rattle.hs_layout.specs.Rules.{Step, stay, and_then, closing, down_past, down_to, indentation, context_of, frame, with_notes, no_notes, see_top, counted, renewed, is_context, renew, is_level, punctuate, at_line, at_opening, pop, at_end_of, answered, at_answer, at_comma, at_where, without_let, is_direct, at_sign, at_bar, at_lexeme, add_note, opened, behind_lexeme}
+use Rattle.hs_layout.specs.Rules.{Step, stay, and_then, closing, down_past, down_to, indentation, frame, with_notes, no_notes, see_top, counted, is_context, renew, is_level, punctuate, at_line, at_opening, pop, at_end_of, answered, at_answer, at_comma, at_where, without_let, is_direct, at_sign, at_bar, at_lexeme, add_note, opened, behind_lexeme}
 use Rattle.hs_layout.specs.Braced.{bars_opening, opening_at, at_mark, ends_in_semicolon, is_first_of_line, behind_semicolon, marked, before, opener, put_token, spot_of, is_pragma, pieces, state_behind, after, at_last, at_end, braced_from, start, braced}
 use Rattle.hs_layout.specs.Source.{IsSource, sign_in, signs, level}
 
@@ -175,21 +174,25 @@ same_behind : (r : Role) (fs : List Frame) → blocks (behind_lexeme r fs) ≡ b
 same_behind r fs = same_opened r (see_top r fs) ∙ same_see r fs
 
 -- what opens is a block
-OpensBlock : Option Context → Type 0
+pub OpensBlock : Option Context → Type 0
 OpensBlock None = Unit {0}
 OpensBlock (Some c) = is_block c ≡ true
 
-opens_at : (b : Bool) (c : Context) → is_block c ≡ true → OpensBlock (if b then None else Some c)
+pub is_opened : (c : Context) → OpensBlock (Some c) → is_block c ≡ true
+unfolding OpensBlock
+is_opened c h = h
+
+pub opens_at : (b : Bool) (c : Context) → is_block c ≡ true → OpensBlock (if b then None else Some c)
 unfolding OpensBlock
 opens_at true c h = tt
 opens_at false c h = h
 
-opening_is : (o : Option Context) (r : Role) → OpensBlock o → OpensBlock (opening_at o r)
+pub opening_is : (o : Option Context) (r : Role) → OpensBlock o → OpensBlock (opening_at o r)
 unfolding OpensBlock
 opening_is None r h = tt
 opening_is (Some c) r h = opens_at (bars_opening c r) c h
 
-opener_is : (r : Role) → OpensBlock (opener r)
+pub opener_is : (r : Role) → OpensBlock (opener r)
 unfolding OpensBlock
 opener_is role.Let = refl
 opener_is role.Where = refl
@@ -280,7 +283,7 @@ level_from st (t ∷ ts) o h =
     let k : Leads st (pieces st t) (after st t) = piece_leads st t o h.0 in
     ap (λ z. level (blocks st.frames) z) (signs_append (pieces st t) (braced_from (after st t) ts)) ∙ level_append (signs (pieces st t)) (signs (braced_from (after st t) ts)) (blocks st.frames) (blocks (after st t).frames) k.0 ∙ level_from (after st t) ts k.1 h.1
 
-started : OpensBlock start.opens
+pub started : OpensBlock start.opens
 unfolding OpensBlock
 started = refl
 

@@ -1,6 +1,5 @@
 -- Layout: the tokens with the signs that are put, Report section 10.3.
-use Rattle.std.specs.Prelude.{ℕ, zero, ◌+◌, Bool, true, false, ◌||◌, nat_eq, nat_lt, List, [], ◌∷◌, ◌++◌, map, Option, Some, None, if◌then◌else◌}
-use Rattle.mk_base.specs.declared.place.Pos.{Pos}
+use Rattle.std.specs.Prelude.{ℕ, ◌+◌, Bool, true, false, ◌||◌, nat_eq, nat_lt, List, [], ◌∷◌, ◌++◌, map, Option, Some, None, if◌then◌else◌}
 use Rattle.hs_syntax.specs.declared.token.Token.{Token}
 use Rattle.hs_syntax.specs.declared.token.TokenKind.{TokenKind}
 use Rattle.hs_syntax.specs.declared.token.TokenKind.TheVariants as kind

@@ -1,13 +1,11 @@
 -- The frames of layout, and what each has seen.
-use Rattle.std.specs.Prelude.{ℕ, Bool, true, false, ◌||◌, not, List, [], ◌∷◌}
+use Rattle.std.specs.Prelude.{Bool, true, false, ◌||◌, not}
 use Rattle.hs_layout.specs.declared.role.Role.{Role}
 use Rattle.hs_layout.specs.declared.role.Role.TheVariants as role
 use Rattle.hs_layout.specs.declared.frame.Context.{Context}
 use Rattle.hs_layout.specs.declared.frame.Context.TheVariants as context
 use Rattle.hs_layout.specs.declared.frame.Sort.{Sort}
 use Rattle.hs_layout.specs.declared.frame.Sort.TheVariants as sort
-use Rattle.hs_layout.specs.declared.frame.Note.{Note}
-use Rattle.hs_layout.specs.declared.frame.Note.TheVariants as note
 use Rattle.hs_layout.specs.declared.frame.Lead.{Lead}
 use Rattle.hs_layout.specs.declared.frame.Lead.TheVariants as lead
 use Rattle.hs_layout.specs.declared.frame.Seen.{Seen}

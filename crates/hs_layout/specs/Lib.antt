@@ -5,3 +5,5 @@ pub mod Rules
 pub mod Follows
 pub mod Braced
 pub mod Source
+pub mod Columns
+pub mod Written

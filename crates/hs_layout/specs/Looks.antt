@@ -1,5 +1,5 @@
 -- Which frame a rule looks for, from the nearest down.
-use Rattle.std.specs.Prelude.{ℕ, Bool, true, false, ◌||◌, ◌&&◌, not, nat_lt, nat_le, List, [], ◌∷◌, if◌then◌else◌}
+use Rattle.std.specs.Prelude.{Bool, true, false, ◌||◌, ◌&&◌, not, nat_lt, nat_le, List, [], ◌∷◌, if◌then◌else◌}
 use Rattle.hs_layout.specs.declared.frame.Context.{Context}
 use Rattle.hs_layout.specs.declared.frame.Context.TheVariants as context
 use Rattle.hs_layout.specs.declared.frame.Sort.{Sort}

@@ -1,5 +1,5 @@
 -- The rules of layout: each says which signs are put before a lexeme, and which frames are open behind them. The nearest frame stands first.
-use Rattle.std.specs.Prelude.{ℕ, zero, suc, Bool, true, false, ◌&&◌, nat_eq, nat_lt, List, [], ◌∷◌, ◌++◌, Option, Some, None, if◌then◌else◌}
+use Rattle.std.specs.Prelude.{ℕ, Bool, true, false, ◌&&◌, nat_eq, nat_lt, List, [], ◌∷◌, ◌++◌, if◌then◌else◌}
 use Rattle.hs_syntax.specs.declared.token.PutSign.{PutSign}
 use Rattle.hs_syntax.specs.declared.token.PutSign.TheVariants.{Open, Semicolon, Close}
 use Rattle.hs_layout.specs.declared.role.Role.{Role}
