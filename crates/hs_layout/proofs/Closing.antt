@@ -1,5 +1,6 @@
 -- Closing frames one by one.
-use Rattle.std.proofs.Common.{◌≡◌, List, [], ◌∷◌, ◌++◌, length, ◌<◌, refl, ap, sym, ◌∙◌, append_assoc, arith}
+use Rattle.std.specs.Prelude.{if◌then◌else◌}
+use Rattle.std.proofs.Common.{Bool, true, false, ◌≡◌, List, [], ◌∷◌, ◌++◌, length, ◌<◌, refl, ap, sym, ◌∙◌, append_assoc, arith}
 use Rattle.std.proofs.lemmas.List.{append-nil}
 use Rattle.hs_syntax.specs.declared.token.PutSign.{PutSign}
 use Rattle.hs_layout.specs.declared.frame.Frame.{Frame}
@@ -38,6 +39,10 @@ stopped Nowhere f fs s h = refl
 stays : (t : Target) (now : List Frame) → (look_top t now ≡ On → ⊥) → down_to t now ≡ stay now
 stays t [] h = refl
 stays t (f ∷ fs) h = stopped (look_at t f) f fs (down_to t fs) h
+
+pub nothing_closes : (b : Bool) (t : Target) (fs : List Frame) → (look_top t fs ≡ On → ⊥) → (if b then down_to t fs else stay fs) ≡ stay fs
+nothing_closes true t fs h = stays t fs h
+nothing_closes false t fs h = refl
 
 pub done : (t : Target) (old now : List Frame) (before after : List PutSign) → Left t old now before after → (look_top t now ≡ On → ⊥) → Follows (down_to t old) now before after
 done t old now before after g h =

@@ -1,8 +1,8 @@
 //! The rules of layout, each on the frames that are open and the signs that are put.
-ghost use Rattle.std.specs.Prelude.{◌≡◌, ◌∷◌, OnOk};
+ghost use Rattle.std.specs.Prelude.{◌≡◌, ◌∷◌, OnOk, if◌then◌else◌};
 ghost use Rattle.hs_layout.specs.Follows.{Follows};
-ghost use Rattle.hs_layout.specs.Looks.{look_top};
-ghost use Rattle.hs_layout.specs.Rules.{close, down_to, indentation, context_of, is_direct, is_level, renewed, renew, onto, punctuate, at_line, at_opening, see_top, frame, at_end_of, pop, counted, with_notes, behind, answered, at_answer, no_notes, at_comma, at_where, without_let, at_bar, at_sign, at_lexeme, add_note, opened, behind_lexeme};
+ghost use Rattle.hs_layout.specs.Looks.{look_top, reaches};
+ghost use Rattle.hs_layout.specs.Rules.{stay, close, down_to, indentation, context_of, is_direct, is_level, renewed, renew, onto, punctuate, at_line, at_opening, see_top, frame, at_end_of, pop, counted, with_notes, behind, answered, at_answer, no_notes, at_comma, at_where, without_let, at_bar, at_sign, at_lexeme, add_note, opened, behind_lexeme};
 
 use crate::frame::{Context, Frame, Lead, Note, Sort, is_block, is_put, nothing_seen, see};
 use crate::look::{Look, Target, look_at, reaches, same_note};
@@ -366,14 +366,26 @@ fn at_sign(
     Ok(())
 }
 
+/// Closes the blocks that a bar ends, where it stands in a list. No list is looked for where no block would end.
+#[tactic(auto, using(crate::proofs::Closing::nothing_closes))]
+fn close_at_bar(frames: &mut Stack<Frame>, signs: &mut Vec<PutSign>) -> Result<(), NoMemory>
+    ensures { OnOk result (Follows (if reaches Target.Inner frames.old then down_to Target.Bar frames.old else stay frames.old) frames.new signs.old.items signs.new.items) }
+{
+    if look_top(Target::Bar, frames) != Look::On {
+        return Ok(());
+    }
+    if reaches(Target::Inner, frames) {
+        return down_to(Target::Bar, frames, signs);
+    }
+    Ok(())
+}
+
 /// A bar.
 fn at_bar(frames: &mut Stack<Frame>, signs: &mut Vec<PutSign>) -> Result<(), NoMemory>
     ensures { OnOk result (Follows (at_bar frames.old) frames.new signs.old.items signs.new.items) }
 {
     if is_direct(frames) {
-        if reaches(Target::Inner, frames) {
-            down_to(Target::Bar, frames, signs)?;
-        }
+        close_at_bar(frames, signs)?;
         return drop_let_top(frames);
     }
     Ok(())

@@ -1,5 +1,5 @@
 //! A stack of anything.
-ghost use Rattle.std.specs.Prelude.{◌≡◌, ◌∷◌, [], OnOk, MatchOption, IfNone, ◌+◌, drop, length};
+ghost use Rattle.std.specs.Prelude.{◌≡◌, ◌∷◌, [], OnOk, OnErr, MatchOption, IfNone, ◌+◌, drop, length};
 
 use mk_base::memory::NoMemory;
 use std::alloc::Global;
@@ -64,7 +64,8 @@ impl<T> Stack<T> {
 impl<T: Drop> Stack<T> {
     /// Puts an element on top.
     pub fn push(&mut self, item: T) -> Result<(), NoMemory>
-        ensures { OnOk result (self.new ≡ item ∷ self.old) }
+        ensures ok { OnOk result (self.new ≡ item ∷ self.old) }
+        ensures err { OnErr result (self.new ≡ self.old) }
     {
         self.items.push(item)?;
         Ok(())
