@@ -1,6 +1,7 @@
 pub mod Roles
 pub mod Frames
 pub mod Looks
+pub mod Below
 pub mod Rules
 pub mod Follows
 pub mod Braced

@@ -4,11 +4,11 @@ ghost use Rattle.hs_layout.specs.Follows.{Follows};
 ghost use Rattle.hs_layout.specs.Roles.{role_of};
 ghost use Rattle.hs_layout.specs.Braced.{bars_opening, opening_at, at_mark, is_semicolon, ends_in_semicolon, behind_semicolon, marked, before, opener, is_semicolon_role, behind_token, state_behind, spot_of, put_token, pieces, after, at_last, at_end, braced};
 
-use crate::frame::{Context, Frame};
+use crate::frame::Context;
+use crate::frames::Frames;
 use crate::look::Target;
 use crate::role::{Role, is_branch, role_of};
 use crate::rules::{at_lexeme, at_line, at_opening, behind_lexeme, down_to, renew};
-use crate::stack::Stack;
 use crate::state::{Spot, State, newlines, start};
 use hs_syntax::token::{PutSign, Token, TokenKind};
 use mk_base::list::List;
@@ -51,7 +51,7 @@ fn at_mark(
     first: bool,
     column: u32,
     keep: bool,
-    frames: &mut Stack<Frame>,
+    frames: &mut Frames,
     signs: &mut Vec<PutSign>,
 ) -> Result<(), NoMemory>
     ensures { OnOk result (Follows (at_mark opening first column keep frames.old) frames.new signs.old.items signs.new.items) }
@@ -101,7 +101,7 @@ fn behind_semicolon(
     alloc: Global,
     semicolon: bool,
     keep: bool,
-    frames: &mut Stack<Frame>,
+    frames: &mut Frames,
 ) -> Result<(), NoMemory>
     ensures { OnOk result (frames.new ≡ behind_semicolon semicolon keep frames.old) }
 {

@@ -3,6 +3,7 @@
 
 pub mod braced;
 pub mod frame;
+pub mod frames;
 pub mod laws;
 pub mod look;
 pub mod role;

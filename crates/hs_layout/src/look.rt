@@ -1,6 +1,6 @@
 //! Which frame a rule looks for, and what it meets on the way there.
 ghost use Rattle.std.specs.Prelude.{◌≡◌};
-ghost use Rattle.hs_layout.specs.Looks.{same_note, has, on_if, through, look_at, look_paren, look_bracket, look_brace, look_note, look_comma, look_inner, look_bar, look_equals, look_arrow, reaches};
+ghost use Rattle.hs_layout.specs.Looks.{same_note, has, on_if, through, look_at, look_paren, look_bracket, look_brace, look_note, look_comma, look_inner, look_bar, look_equals, look_arrow};
 
 use crate::frame::{Context, Frame, Note, Sort, is_block, is_put, takes_comma};
 use crate::stack::Stack;
@@ -214,21 +214,4 @@ pub fn look_at(target: Target, frame: &Frame) -> Look
         Target::Arrow => look_arrow(frame),
         Target::End => Look::On,
     }
-}
-
-/// Whether the frame that a rule looks for is there, with none in between that bars it.
-pub fn reaches(target: Target, frames: &Stack<Frame>) -> bool
-    ensures { result ≡ reaches target frames.now }
-{
-    for i in 0..frames.len() {
-        let Some(frame) = frames.get(i) else {
-            return false;
-        };
-        match look_at(target, frame) {
-            Look::Here => return true,
-            Look::On => {}
-            Look::Nowhere => return false,
-        }
-    }
-    false
 }

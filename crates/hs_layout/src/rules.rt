@@ -1,11 +1,13 @@
 //! The rules of layout, each on the frames that are open and the signs that are put.
 ghost use Rattle.std.specs.Prelude.{◌≡◌, ◌∷◌, OnOk, if◌then◌else◌};
 ghost use Rattle.hs_layout.specs.Follows.{Follows};
+ghost use Rattle.hs_layout.specs.Below.{IsSought};
 ghost use Rattle.hs_layout.specs.Looks.{look_top, reaches};
 ghost use Rattle.hs_layout.specs.Rules.{stay, close, down_to, indentation, context_of, is_direct, is_level, renewed, renew, onto, punctuate, at_line, at_opening, see_top, frame, at_end_of, pop, counted, with_notes, behind, answered, at_answer, no_notes, at_comma, at_where, without_let, at_bar, at_sign, at_lexeme, add_note, opened, behind_lexeme};
 
 use crate::frame::{Context, Frame, Lead, Note, Sort, is_block, is_put, nothing_seen, see};
-use crate::look::{Look, Target, look_at, reaches, same_note};
+use crate::frames::Frames;
+use crate::look::{Look, Target, look_at, same_note};
 use crate::role::Role;
 use crate::stack::Stack;
 use hs_syntax::token::PutSign;
@@ -13,17 +15,17 @@ use mk_base::memory::NoMemory;
 use std::alloc::Global;
 
 /// What the nearest frame is to a rule that looks for this one; it is there where no frame is left.
-fn look_top(target: Target, frames: &Stack<Frame>) -> Look
+fn look_top(target: Target, frames: &Frames) -> Look
     ensures { result ≡ look_top target frames.now }
 {
-    match frames.get(0) {
+    match frames.top() {
         Some(frame) => look_at(target, frame),
         None => Look::Here,
     }
 }
 
 /// Closes the nearest frame. Where it is a block, its closing brace is put.
-fn close(frames: &mut Stack<Frame>, signs: &mut Vec<PutSign>) -> Result<(), NoMemory>
+fn close(frames: &mut Frames, signs: &mut Vec<PutSign>) -> Result<(), NoMemory>
     ensures { OnOk result (Follows (close frames.old) frames.new signs.old.items signs.new.items) }
 {
     let Some(frame) = frames.pop() else {
@@ -38,7 +40,7 @@ fn close(frames: &mut Stack<Frame>, signs: &mut Vec<PutSign>) -> Result<(), NoMe
 /// Closes the frames above the one that is looked for.
 pub fn down_to(
     target: Target,
-    frames: &mut Stack<Frame>,
+    frames: &mut Frames,
     signs: &mut Vec<PutSign>,
 ) -> Result<(), NoMemory>
     ensures { OnOk result (Follows (down_to target frames.old) frames.new signs.old.items signs.new.items) }
@@ -50,40 +52,40 @@ pub fn down_to(
 }
 
 /// The indentation that holds in the nearest frame.
-fn indentation(frames: &Stack<Frame>) -> u32
+fn indentation(frames: &Frames) -> u32
     ensures { result ≡ indentation frames.now }
 {
-    match frames.get(0) {
+    match frames.top() {
         Some(frame) => frame.column,
         None => 0,
     }
 }
 
 /// The context that the nearest frame is or stands in.
-fn context_of(frames: &Stack<Frame>) -> Context
+fn context_of(frames: &Frames) -> Context
     ensures { result ≡ context_of frames.now }
 {
-    match frames.get(0) {
+    match frames.top() {
         Some(frame) => frame.context,
         None => Context::Outside,
     }
 }
 
 /// Whether the enclosing context is a block of that indentation.
-fn is_level(column: u32, frames: &Stack<Frame>) -> bool
+fn is_level(column: u32, frames: &Frames) -> bool
     ensures { result ≡ is_level column frames.now }
 {
-    match frames.get(0) {
+    match frames.top() {
         Some(frame) => is_block(frame.context) && column == frame.column,
         None => false,
     }
 }
 
 /// Whether the nearest frame is a block whose brace is put.
-fn is_direct(frames: &Stack<Frame>) -> bool
+fn is_direct(frames: &Frames) -> bool
     ensures { result ≡ is_direct frames.now }
 {
-    match frames.get(0) {
+    match frames.top() {
         Some(frame) => is_put(frame),
         None => false,
     }
@@ -103,7 +105,7 @@ pub fn frame_of(alloc: Global, sort: Sort, context: Context, column: u32) -> Fra
 }
 
 /// The nearest frame has seen a further lexeme.
-fn see_top(role: Role, frames: &mut Stack<Frame>) -> Result<(), NoMemory>
+fn see_top(role: Role, frames: &mut Frames) -> Result<(), NoMemory>
     ensures { OnOk result (frames.new ≡ see_top role frames.old) }
 {
     let Some(mut frame) = frames.pop() else {
@@ -114,7 +116,7 @@ fn see_top(role: Role, frames: &mut Stack<Frame>) -> Result<(), NoMemory>
 }
 
 /// The frames, the nearest last, back on top of others.
-fn put_back(mut held: Stack<Frame>, frames: &mut Stack<Frame>) -> Result<(), NoMemory>
+fn put_back(mut held: Stack<Frame>, frames: &mut Frames) -> Result<(), NoMemory>
     ensures { OnOk result (frames.new ≡ onto held frames.old) }
 {
     while let Some(frame) = held.pop() {
@@ -136,7 +138,7 @@ fn renewed(alloc: Global, keep: bool, frame: Frame) -> Frame
 }
 
 /// Behind a semicolon nothing is seen up to the enclosing context, and the notes go unless they are kept.
-pub fn renew(alloc: Global, keep: bool, frames: &mut Stack<Frame>) -> Result<(), NoMemory>
+pub fn renew(alloc: Global, keep: bool, frames: &mut Frames) -> Result<(), NoMemory>
     ensures { OnOk result (frames.new ≡ renew keep frames.old) }
 {
     let mut held = Stack::new(alloc);
@@ -155,7 +157,7 @@ fn punctuate(
     alloc: Global,
     column: u32,
     keep: bool,
-    frames: &mut Stack<Frame>,
+    frames: &mut Frames,
     signs: &mut Vec<PutSign>,
 ) -> Result<(), NoMemory>
     ensures { OnOk result (Follows (punctuate column keep frames.old) frames.new signs.old.items signs.new.items) }
@@ -172,7 +174,7 @@ pub fn at_line(
     alloc: Global,
     column: u32,
     keep: bool,
-    frames: &mut Stack<Frame>,
+    frames: &mut Frames,
     signs: &mut Vec<PutSign>,
 ) -> Result<(), NoMemory>
     ensures { OnOk result (Follows (at_line column keep frames.old) frames.new signs.old.items signs.new.items) }
@@ -187,7 +189,7 @@ pub fn at_opening(
     context: Context,
     column: u32,
     keep: bool,
-    frames: &mut Stack<Frame>,
+    frames: &mut Frames,
     signs: &mut Vec<PutSign>,
 ) -> Result<(), NoMemory>
     ensures { OnOk result (Follows (at_opening context column keep frames.old) frames.new signs.old.items signs.new.items) }
@@ -211,7 +213,7 @@ fn counted(sort: Sort, lead: Lead) -> Role
 }
 
 /// Takes the nearest frame off, where it isn't a block whose brace is put.
-fn pop(frames: &mut Stack<Frame>) -> Result<(), NoMemory>
+fn pop(frames: &mut Frames) -> Result<(), NoMemory>
     ensures { OnOk result (frames.new ≡ pop frames.old) }
 {
     let Some(frame) = frames.pop() else {
@@ -224,14 +226,11 @@ fn pop(frames: &mut Stack<Frame>) -> Result<(), NoMemory>
 }
 
 /// A closing parenthesis, bracket or brace.
-fn at_end_of(
-    target: Target,
-    frames: &mut Stack<Frame>,
-    signs: &mut Vec<PutSign>,
-) -> Result<(), NoMemory>
+fn at_end_of(target: Target, frames: &mut Frames, signs: &mut Vec<PutSign>) -> Result<(), NoMemory>
+    requires { IsSought target }
     ensures { OnOk result (Follows (at_end_of target frames.old) frames.new signs.old.items signs.new.items) }
 {
-    if reaches(target, frames) {
+    if frames.reaches(target) {
         down_to(target, frames, signs)?;
         return pop(frames);
     }
@@ -261,7 +260,7 @@ fn answer(note: Note, notes: &mut Stack<Note>) -> Result<(), NoMemory>
 }
 
 /// The word for which a note of the nearest frame waited.
-fn answer_top(note: Note, frames: &mut Stack<Frame>) -> Result<(), NoMemory>
+fn answer_top(note: Note, frames: &mut Frames) -> Result<(), NoMemory>
     ensures { OnOk result (frames.new ≡ with_notes (answered note) frames.old) }
 {
     let Some(mut frame) = frames.pop() else {
@@ -272,14 +271,10 @@ fn answer_top(note: Note, frames: &mut Stack<Frame>) -> Result<(), NoMemory>
 }
 
 /// The words `of`, `then`, `else` and `in`, by the note that waits for each.
-fn at_answer(
-    note: Note,
-    frames: &mut Stack<Frame>,
-    signs: &mut Vec<PutSign>,
-) -> Result<(), NoMemory>
+fn at_answer(note: Note, frames: &mut Frames, signs: &mut Vec<PutSign>) -> Result<(), NoMemory>
     ensures { OnOk result (Follows (at_answer note frames.old) frames.new signs.old.items signs.new.items) }
 {
-    if reaches(Target::Note(note), frames) {
+    if frames.reaches(Target::Note(note)) {
         down_to(Target::Note(note), frames, signs)?;
         return answer_top(note, frames);
     }
@@ -287,7 +282,7 @@ fn at_answer(
 }
 
 /// Drops the notes of the nearest frame.
-fn drop_notes(alloc: Global, frames: &mut Stack<Frame>) -> Result<(), NoMemory>
+fn drop_notes(alloc: Global, frames: &mut Frames) -> Result<(), NoMemory>
     ensures { OnOk result (frames.new ≡ with_notes no_notes frames.old) }
 {
     let Some(mut frame) = frames.pop() else {
@@ -298,14 +293,10 @@ fn drop_notes(alloc: Global, frames: &mut Stack<Frame>) -> Result<(), NoMemory>
 }
 
 /// A comma.
-fn at_comma(
-    alloc: Global,
-    frames: &mut Stack<Frame>,
-    signs: &mut Vec<PutSign>,
-) -> Result<(), NoMemory>
+fn at_comma(alloc: Global, frames: &mut Frames, signs: &mut Vec<PutSign>) -> Result<(), NoMemory>
     ensures { OnOk result (Follows (at_comma frames.old) frames.new signs.old.items signs.new.items) }
 {
-    if reaches(Target::Comma, frames) {
+    if frames.reaches(Target::Comma) {
         down_to(Target::Comma, frames, signs)?;
         return drop_notes(alloc, frames);
     }
@@ -316,7 +307,7 @@ fn at_comma(
 fn at_where(
     semicolon: bool,
     column: u32,
-    frames: &mut Stack<Frame>,
+    frames: &mut Frames,
     signs: &mut Vec<PutSign>,
 ) -> Result<(), NoMemory>
     ensures { OnOk result (Follows (at_where semicolon column frames.old) frames.new signs.old.items signs.new.items) }
@@ -341,7 +332,7 @@ fn drop_let(notes: &mut Stack<Note>) -> Result<(), NoMemory>
 }
 
 /// Drops the nearest note of the nearest frame where it is one of `let`.
-fn drop_let_top(frames: &mut Stack<Frame>) -> Result<(), NoMemory>
+fn drop_let_top(frames: &mut Frames) -> Result<(), NoMemory>
     ensures { OnOk result (frames.new ≡ with_notes without_let frames.old) }
 {
     let Some(mut frame) = frames.pop() else {
@@ -352,11 +343,7 @@ fn drop_let_top(frames: &mut Stack<Frame>) -> Result<(), NoMemory>
 }
 
 /// An equals sign or an arrow.
-fn at_sign(
-    target: Target,
-    frames: &mut Stack<Frame>,
-    signs: &mut Vec<PutSign>,
-) -> Result<(), NoMemory>
+fn at_sign(target: Target, frames: &mut Frames, signs: &mut Vec<PutSign>) -> Result<(), NoMemory>
     ensures { OnOk result (Follows (at_sign (down_to target frames.old) frames.old) frames.new signs.old.items signs.new.items) }
 {
     if is_direct(frames) {
@@ -368,20 +355,20 @@ fn at_sign(
 
 /// Closes the blocks that a bar ends, where it stands in a list. No list is looked for where no block would end.
 #[tactic(auto, using(crate::proofs::Closing::nothing_closes))]
-fn close_at_bar(frames: &mut Stack<Frame>, signs: &mut Vec<PutSign>) -> Result<(), NoMemory>
+fn close_at_bar(frames: &mut Frames, signs: &mut Vec<PutSign>) -> Result<(), NoMemory>
     ensures { OnOk result (Follows (if reaches Target.Inner frames.old then down_to Target.Bar frames.old else stay frames.old) frames.new signs.old.items signs.new.items) }
 {
     if look_top(Target::Bar, frames) != Look::On {
         return Ok(());
     }
-    if reaches(Target::Inner, frames) {
+    if frames.reaches(Target::Inner) {
         return down_to(Target::Bar, frames, signs);
     }
     Ok(())
 }
 
 /// A bar.
-fn at_bar(frames: &mut Stack<Frame>, signs: &mut Vec<PutSign>) -> Result<(), NoMemory>
+fn at_bar(frames: &mut Frames, signs: &mut Vec<PutSign>) -> Result<(), NoMemory>
     ensures { OnOk result (Follows (at_bar frames.old) frames.new signs.old.items signs.new.items) }
 {
     if is_direct(frames) {
@@ -397,7 +384,7 @@ pub fn at_lexeme(
     role: Role,
     semicolon: bool,
     column: u32,
-    frames: &mut Stack<Frame>,
+    frames: &mut Frames,
     signs: &mut Vec<PutSign>,
 ) -> Result<(), NoMemory>
     ensures { OnOk result (Follows (at_lexeme role semicolon column frames.old) frames.new signs.old.items signs.new.items) }
@@ -420,7 +407,7 @@ pub fn at_lexeme(
 }
 
 /// Notes a word in the nearest frame.
-fn add_note(note: Note, frames: &mut Stack<Frame>) -> Result<(), NoMemory>
+fn add_note(note: Note, frames: &mut Frames) -> Result<(), NoMemory>
     ensures { OnOk result (frames.new ≡ with_notes (add_note note) frames.old) }
 {
     let Some(mut frame) = frames.pop() else {
@@ -431,7 +418,7 @@ fn add_note(note: Note, frames: &mut Stack<Frame>) -> Result<(), NoMemory>
 }
 
 /// Opens a parenthesis or a bracket.
-fn open_in(alloc: Global, sort: Sort, frames: &mut Stack<Frame>) -> Result<(), NoMemory>
+fn open_in(alloc: Global, sort: Sort, frames: &mut Frames) -> Result<(), NoMemory>
     ensures { OnOk result (frames.new ≡ frame sort (context_of frames.old) (indentation frames.old) ∷ frames.old) }
 {
     let context = context_of(frames);
@@ -440,7 +427,7 @@ fn open_in(alloc: Global, sort: Sort, frames: &mut Stack<Frame>) -> Result<(), N
 }
 
 /// What a lexeme opens behind itself.
-fn open_behind(alloc: Global, role: Role, frames: &mut Stack<Frame>) -> Result<(), NoMemory>
+fn open_behind(alloc: Global, role: Role, frames: &mut Frames) -> Result<(), NoMemory>
     ensures { OnOk result (frames.new ≡ opened role frames.old) }
 {
     match role {
@@ -455,7 +442,7 @@ fn open_behind(alloc: Global, role: Role, frames: &mut Stack<Frame>) -> Result<(
 }
 
 /// The frames behind a lexeme.
-pub fn behind_lexeme(alloc: Global, role: Role, frames: &mut Stack<Frame>) -> Result<(), NoMemory>
+pub fn behind_lexeme(alloc: Global, role: Role, frames: &mut Frames) -> Result<(), NoMemory>
     ensures { OnOk result (frames.new ≡ behind_lexeme role frames.old) }
 {
     see_top(role, frames)?;

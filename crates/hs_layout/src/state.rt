@@ -2,9 +2,9 @@
 ghost use Rattle.std.specs.Prelude.{◌≡◌, ◌≤◌, length, false, IfOk};
 ghost use Rattle.hs_layout.specs.Braced.{newline, newlines, start, is_first_of_line};
 
-use crate::frame::{Context, Frame, Sort};
+use crate::frame::{Context, Sort};
+use crate::frames::Frames;
 use crate::rules::frame_of;
-use crate::stack::Stack;
 use mk_base::memory::NoMemory;
 use mk_base::place::Pos;
 use std::alloc::Global;
@@ -19,7 +19,7 @@ pub struct Spot {
 /// What layout knows between two lexemes.
 #[derive(Drop)]
 pub struct State {
-    pub frames: Stack<Frame>,
+    pub frames: Frames,
     /// The block that opens at the next lexeme.
     pub opens: Option<Context>,
     /// Whether the last lexeme is a semicolon.
@@ -60,7 +60,7 @@ pub fn newlines(text: &[u8]) -> usize
 pub fn start(alloc: Global) -> Result<State, NoMemory>
     ensures { IfOk result (λ st. st ≡ start) }
 {
-    let mut frames = Stack::new(alloc);
+    let mut frames = Frames::new(alloc);
     frames.push(frame_of(alloc, Sort::Context, Context::Outside, 0))?;
     Ok(State {
         frames,
