@@ -1,4 +1,5 @@
 pub mod Roles
+pub mod Notes
 pub mod Frames
 pub mod Looks
 pub mod Below

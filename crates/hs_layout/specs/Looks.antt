@@ -5,25 +5,14 @@ use Rattle.hs_layout.specs.declared.frame.Context.TheVariants as context
 use Rattle.hs_layout.specs.declared.frame.Sort.{Sort}
 use Rattle.hs_layout.specs.declared.frame.Sort.TheVariants as sort
 use Rattle.hs_layout.specs.declared.frame.Note.{Note}
-use Rattle.hs_layout.specs.declared.frame.Note.TheVariants as note
 use Rattle.hs_layout.specs.declared.frame.Seen.{Seen}
 use Rattle.hs_layout.specs.declared.frame.Frame.{Frame}
 use Rattle.hs_layout.specs.declared.look.Look.{Look}
 use Rattle.hs_layout.specs.declared.look.Look.TheVariants.{Here, On, Nowhere}
 use Rattle.hs_layout.specs.declared.look.Target.{Target}
 use Rattle.hs_layout.specs.declared.look.Target.TheVariants as target
+use Rattle.hs_layout.specs.Notes.{has}
 use Rattle.hs_layout.specs.Frames.{is_block, is_put, takes_comma}
-
-abbrev pub same_note : Note → Note → Bool
-same_note note.Case note.Case = true
-same_note note.If note.If = true
-same_note note.Then note.Then = true
-same_note note.Let note.Let = true
-same_note _ _ = false
-
-abbrev pub has : Note → List Note → Bool
-has n [] = false
-has n (m ∷ ms) = if same_note m n then true else has n ms
 
 abbrev pub on_if : Bool → Look
 on_if true = On

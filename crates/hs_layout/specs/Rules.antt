@@ -18,7 +18,8 @@ use Rattle.hs_layout.specs.declared.look.Look.TheVariants.{Here, On, Nowhere}
 use Rattle.hs_layout.specs.declared.look.Target.{Target}
 use Rattle.hs_layout.specs.declared.look.Target.TheVariants as target
 use Rattle.hs_layout.specs.Frames.{is_block, is_put, nothing_seen, see}
-use Rattle.hs_layout.specs.Looks.{same_note, look_at, reaches}
+use Rattle.hs_layout.specs.Notes.{same_note}
+use Rattle.hs_layout.specs.Looks.{look_at, reaches}
 
 -- what a rule puts, and the frames behind it
 pub record Step : Type 0 where

@@ -2,8 +2,8 @@
 ghost use Rattle.std.specs.Prelude.{◌≡◌};
 ghost use Rattle.hs_layout.specs.Frames.{is_block, is_put, nothing_seen, more_names, other_lead, lead_after, see, not_plain, takes_comma};
 
+use crate::notes::Notes;
 use crate::role::Role;
-use crate::stack::Stack;
 
 /// What encloses a lexeme: nothing, written braces, or a block whose brace is put, by the word that opened it.
 ///
@@ -73,7 +73,7 @@ pub struct Frame {
     pub context: Context,
     /// The indentation of that context, counted as columns are, from 1; 0 where it is no block.
     pub column: u32,
-    pub notes: Stack<Note>,
+    pub notes: Notes,
     pub seen: Seen,
 }
 

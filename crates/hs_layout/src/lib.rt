@@ -6,6 +6,7 @@ pub mod frame;
 pub mod frames;
 pub mod laws;
 pub mod look;
+pub mod notes;
 pub mod role;
 pub mod rules;
 pub mod stack;

@@ -1,9 +1,8 @@
 //! Which frame a rule looks for, and what it meets on the way there.
 ghost use Rattle.std.specs.Prelude.{◌≡◌};
-ghost use Rattle.hs_layout.specs.Looks.{same_note, has, on_if, through, look_at, look_paren, look_bracket, look_brace, look_note, look_comma, look_inner, look_bar, look_equals, look_arrow};
+ghost use Rattle.hs_layout.specs.Looks.{on_if, through, look_at, look_paren, look_bracket, look_brace, look_note, look_comma, look_inner, look_bar, look_equals, look_arrow};
 
 use crate::frame::{Context, Frame, Note, Sort, is_block, is_put, takes_comma};
-use crate::stack::Stack;
 
 /// Which frame a rule looks for, from the nearest down.
 ///
@@ -33,34 +32,6 @@ pub enum Look {
     Here,
     On,
     Nowhere,
-}
-
-/// Whether two notes are the same.
-pub fn same_note(a: Note, b: Note) -> bool
-    ensures { result ≡ same_note a b }
-{
-    match (a, b) {
-        (Note::Case, Note::Case) => true,
-        (Note::If, Note::If) => true,
-        (Note::Then, Note::Then) => true,
-        (Note::Let, Note::Let) => true,
-        _ => false,
-    }
-}
-
-/// Whether a note stands among these.
-pub fn has(note: Note, notes: &Stack<Note>) -> bool
-    ensures { result ≡ has note notes.now }
-{
-    for i in 0..notes.len() {
-        let Some(other) = notes.get(i) else {
-            return false;
-        };
-        if same_note(*other, note) {
-            return true;
-        }
-    }
-    false
 }
 
 /// On where the frame is to be closed, and here where it is to stay.
@@ -124,7 +95,7 @@ fn look_brace(frame: &Frame) -> Look
 fn look_note(note: Note, frame: &Frame) -> Look
     ensures { result ≡ look_note note frame.now }
 {
-    if has(note, &frame.notes) {
+    if frame.notes.has(note) {
         return Look::Here;
     }
     if is_put(frame) {

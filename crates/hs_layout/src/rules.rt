@@ -7,7 +7,8 @@ ghost use Rattle.hs_layout.specs.Rules.{stay, close, down_to, indentation, conte
 
 use crate::frame::{Context, Frame, Lead, Note, Sort, is_block, is_put, nothing_seen, see};
 use crate::frames::Frames;
-use crate::look::{Look, Target, look_at, same_note};
+use crate::look::{Look, Target, look_at};
+use crate::notes::{Notes, same_note};
 use crate::role::Role;
 use crate::stack::Stack;
 use hs_syntax::token::PutSign;
@@ -99,7 +100,7 @@ pub fn frame_of(alloc: Global, sort: Sort, context: Context, column: u32) -> Fra
         sort,
         context,
         column,
-        notes: Stack::new(alloc),
+        notes: Notes::new(alloc),
         seen: nothing_seen(),
     }
 }
@@ -131,7 +132,7 @@ fn renewed(alloc: Global, keep: bool, frame: Frame) -> Frame
 {
     let mut frame = frame;
     if !keep {
-        frame.notes = Stack::new(alloc);
+        frame.notes = Notes::new(alloc);
     }
     frame.seen = nothing_seen();
     frame
@@ -238,7 +239,7 @@ fn at_end_of(target: Target, frames: &mut Frames, signs: &mut Vec<PutSign>) -> R
 }
 
 /// Drops the notes down to the nearest that is the same, and that one too.
-fn drop_note(note: Note, notes: &mut Stack<Note>)
+fn drop_note(note: Note, notes: &mut Notes)
     ensures { notes.new ≡ behind note notes.old }
 {
     while let Some(other) = notes.pop() {
@@ -249,7 +250,7 @@ fn drop_note(note: Note, notes: &mut Stack<Note>)
 }
 
 /// The word for which a note waited.
-fn answer(note: Note, notes: &mut Stack<Note>) -> Result<(), NoMemory>
+fn answer(note: Note, notes: &mut Notes) -> Result<(), NoMemory>
     ensures { OnOk result (notes.new ≡ answered note notes.old) }
 {
     drop_note(note, notes);
@@ -288,7 +289,7 @@ fn drop_notes(alloc: Global, frames: &mut Frames) -> Result<(), NoMemory>
     let Some(mut frame) = frames.pop() else {
         return Ok(());
     };
-    frame.notes = Stack::new(alloc);
+    frame.notes = Notes::new(alloc);
     frames.push(frame)
 }
 
@@ -319,7 +320,7 @@ fn at_where(
 }
 
 /// Drops the nearest note where it is one of `let`.
-fn drop_let(notes: &mut Stack<Note>) -> Result<(), NoMemory>
+fn drop_let(notes: &mut Notes) -> Result<(), NoMemory>
     ensures { OnOk result (notes.new ≡ without_let notes.old) }
 {
     let Some(note) = notes.pop() else {
