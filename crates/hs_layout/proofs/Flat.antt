@@ -1,6 +1,6 @@
 -- Within written braces no indentation holds.
 use Rattle.std.specs.Prelude.{if◌then◌else◌, nat_lt, nat_eq, ◌&&◌, Option, Some, None}
-use Rattle.std.proofs.Common.{◌≡◌, ℕ, ◌≤◌, ◌<◌, zero, suc, Bool, true, false, List, [], ◌∷◌, ◌++◌, refl, ap, sym, ◌∙◌, subst, arith}
+use Rattle.std.proofs.Common.{◌≡◌, ℕ, Bool, true, false, List, [], ◌∷◌, refl, ap, sym, ◌∙◌, arith}
 use Rattle.std.proofs.lemmas.Bool.Decides.{nat_tests}
 use Rattle.hs_syntax.specs.declared.token.Token.{Token}
 use Rattle.hs_syntax.specs.declared.token.PutSign.TheVariants.{Open, Semicolon, Close}
@@ -21,8 +21,8 @@ use Rattle.hs_layout.specs.declared.state.State.{State}
 use Rattle.hs_layout.specs.Roles.{role_of, is_branch}
 use Rattle.hs_layout.specs.Frames.{is_block, is_put}
 use Rattle.hs_layout.specs.Looks.{on_if, look_at, reaches}
-use Rattle.hs_layout.specs.Rules.{Step, stay, and_then, down_past, down_to, indentation, context_of, frame, with_notes, no_notes, see_top, counted, renewed, is_context, renew, is_level, punctuate, at_line, at_opening, pop, at_end_of, answered, at_answer, at_comma, at_where, without_let, is_direct, at_sign, at_bar, at_lexeme, add_note, opened, behind_lexeme}
-use Rattle.hs_layout.specs.Braced.{opening_at, at_mark, ends_in_semicolon, is_first_of_line, behind_semicolon, marked, before, opener, is_pragma, state_behind, after, start}
+use Rattle.hs_layout.specs.Rules.{Step, stay, and_then, down_past, down_to, indentation, context_of, frame, with_notes, no_notes, see_top, counted, is_context, renew, is_level, punctuate, at_line, at_opening, pop, at_end_of, answered, at_where, without_let, is_direct, at_sign, at_bar, at_lexeme, add_note, opened}
+use Rattle.hs_layout.specs.Braced.{opening_at, at_mark, ends_in_semicolon, is_first_of_line, behind_semicolon, marked, before, is_pragma, state_behind, after, start}
 use Rattle.hs_layout.specs.Written.{behind_all, IsInBraces, PutsNoLine}
 use Rattle.hs_layout.proofs.Balance.{OpensBlock, is_opened, opening_is, opener_is, started}
 

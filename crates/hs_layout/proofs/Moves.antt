@@ -1,6 +1,6 @@
 -- Layout reads columns by comparing them.
 use Rattle.std.specs.Prelude.{map, if◌then◌else◌, nat_lt, nat_le, nat_eq, ◌&&◌, Option, Some, None}
-use Rattle.std.proofs.Common.{◌≡◌, ℕ, ◌<◌, ◌≤◌, Bool, true, false, List, [], ◌∷◌, ◌++◌, refl, ap, sym, ◌∙◌, subst, arith}
+use Rattle.std.proofs.Common.{◌≡◌, ℕ, ◌<◌, ◌≤◌, Bool, true, false, List, [], ◌∷◌, ◌++◌, refl, ap, sym, ◌∙◌, arith}
 use Rattle.std.proofs.lemmas.Bool.Decides.{nat_tests}
 use Rattle.hs_syntax.specs.declared.token.Token.{Token}
 use Rattle.hs_syntax.specs.declared.token.PutSign.{PutSign}
@@ -18,12 +18,11 @@ use Rattle.hs_layout.specs.declared.look.Look.{Look}
 use Rattle.hs_layout.specs.declared.look.Look.TheVariants.{Here, On, Nowhere}
 use Rattle.hs_layout.specs.declared.look.Target.{Target}
 use Rattle.hs_layout.specs.declared.look.Target.TheVariants as target
-use Rattle.hs_layout.specs.declared.state.Spot.{Spot}
 use Rattle.hs_layout.specs.declared.state.State.{State}
 use Rattle.hs_layout.specs.Roles.{role_of, is_branch}
 use Rattle.hs_layout.specs.Frames.{is_block, is_put}
 use Rattle.hs_layout.specs.Looks.{on_if, look_at, reaches_past, reaches}
-use Rattle.hs_layout.specs.Rules.{Step, stay, and_then, closing, down_past, down_to, indentation, context_of, frame, with_notes, no_notes, see_top, counted, renewed, is_context, renew, is_level, punctuate, at_line, at_opening, pop, at_end_of, answered, at_answer, at_comma, at_where, without_let, is_direct, at_sign, at_bar, at_lexeme, add_note, opened, behind_lexeme}
+use Rattle.hs_layout.specs.Rules.{Step, stay, and_then, down_past, down_to, indentation, context_of, frame, with_notes, no_notes, see_top, counted, renewed, is_context, renew, is_level, punctuate, at_line, at_opening, pop, at_end_of, answered, at_answer, at_comma, at_where, without_let, is_direct, at_sign, at_bar, at_lexeme, add_note, opened, behind_lexeme}
 use Rattle.hs_layout.specs.Braced.{opening_at, at_mark, ends_in_semicolon, is_first_of_line, behind_semicolon, marked, before, opener, newlines, is_semicolon_role, put_token, spot_of, is_pragma, pieces, behind_token, state_behind, after, at_last, at_end, braced_from, start, braced}
 use Rattle.hs_layout.specs.Columns.{IsInOrder, in_column, no_column}
 

@@ -1,5 +1,5 @@
 -- Tokens in other columns.
-use Rattle.std.specs.Prelude.{◌≡◌, ℕ, ◌<◌, List}
+use Rattle.std.specs.Prelude.{◌≡◌, ℕ, ◌<◌}
 use Rattle.hs_syntax.specs.declared.token.Token.{Token}
 
 -- other columns in the same order, with 0 in its place
