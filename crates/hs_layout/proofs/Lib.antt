@@ -1,0 +1,6 @@
+pub mod Stacks
+pub mod Closing
+pub mod Own
+pub mod Balance
+pub mod Moves
+pub mod Flat

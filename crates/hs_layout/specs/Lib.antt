@@ -1,0 +1,11 @@
+pub mod Roles
+pub mod Notes
+pub mod Frames
+pub mod Looks
+pub mod Below
+pub mod Rules
+pub mod Follows
+pub mod Braced
+pub mod Source
+pub mod Columns
+pub mod Written
