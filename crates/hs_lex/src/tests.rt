@@ -1,4 +1,7 @@
 //! What no clause says: that sources of every kind lex with ample memory.
+ghost use Rattle.std.specs.Prelude.{◌≤◌, length, IfSome};
+ghost use Rattle.hs_lex.specs.Tokens.{IsReached};
+
 use crate::cursor::{Cursor, start};
 use crate::lex::{LexErr, lex, next_token, read};
 use hs_syntax::token::TokenKind::*;
@@ -478,4 +481,63 @@ fn faults(rt: HostRuntime) {
     for (source, line, col) in ROWS {
         assert!(rt; fails_at(rt.alloc(), source, line, col));
     }
+}
+
+/// The cursor behind the lexeme that follows a cursor, where the lexeme is the row's.
+fn read_row(alloc: Global, source: &[u8], cursor: Cursor, row: Row) -> Option<Cursor>
+    requires size { length source.now ≤ 1048576 }
+    requires reached { IsReached source.now cursor }
+    ensures { IfSome result (IsReached source.now) }
+{
+    match read(alloc, source, cursor) {
+        Ok(Some((token, next))) => {
+            if is_row(&token, row) {
+                Some(next)
+            } else {
+                None
+            }
+        }
+        _ => None,
+    }
+}
+
+fn is_at_end(alloc: Global, source: &[u8], cursor: Cursor) -> bool
+    requires size { length source.now ≤ 1048576 }
+    requires reached { IsReached source.now cursor }
+{
+    match read(alloc, source, cursor) {
+        Ok(None) => true,
+        _ => false,
+    }
+}
+
+fn begins_with_row(alloc: Global, source: &[u8], row: Row) -> bool
+    requires { length source.now ≤ 1048576 }
+{
+    let _first = start(source);
+    match next_token(alloc, source, 0) {
+        Ok(Some(token)) => is_row(&token, row),
+        _ => false,
+    }
+}
+
+/// One lexeme after another, behind a cursor.
+#[test]
+fn lexemes_one_by_one(rt: HostRuntime) {
+    let alloc = rt.alloc();
+    let source: &[u8] = b"-- a\nimport {- b -} {-# SOURCE #-} A -- c";
+    assert!(rt; begins_with_row(alloc, source, (Word, b"import", 2, 1)));
+    let Some(word) = read_row(alloc, source, start(source), (Word, b"import", 2, 1)) else {
+        assert!(rt; false, "import");
+        return;
+    };
+    let Some(pragma) = read_row(alloc, source, word, (Pragma, b"{-# SOURCE #-}", 2, 16)) else {
+        assert!(rt; false, "pragma");
+        return;
+    };
+    let Some(name) = read_row(alloc, source, pragma, (ConId, b"A", 2, 31)) else {
+        assert!(rt; false, "name");
+        return;
+    };
+    assert!(rt; is_at_end(alloc, source, name));
 }
