@@ -1,5 +1,5 @@
 //! The lexemes of a source.
-ghost use Rattle.std.specs.Prelude.{◌≡◌, ◌++◌, ◌≤◌, List, [], ℕ, length, drop, IfOk, Ok, Err, Some, None};
+ghost use Rattle.std.specs.Prelude.{◌≡◌, ◌↔◌, ◌⊎◌, ◌++◌, ◌≤◌, List, [], ℕ, length, drop, IfOk, Ok, Err, Some, None};
 ghost use Rattle.source_text.specs.Characters.{characters};
 ghost use Rattle.mk_base.specs.declared.place.Pos.{Pos};
 ghost use Rattle.hs_syntax.specs.declared.token.Token.{Token};
@@ -7,6 +7,7 @@ ghost use Rattle.hs_lex.specs.declared.item.Kind.{Kind};
 ghost use Rattle.hs_lex.specs.declared.cursor.Cursor.{Cursor};
 ghost use Rattle.hs_lex.specs.Items.{Leads};
 ghost use Rattle.hs_lex.specs.Tokens.{Lexes, IsFirstBad, IsReached, IsNext, IsBlank, IsBadFrom, IsPlace, Tokens, ahead};
+ghost use Rattle.hs_lex.specs.Slow.{read_source};
 
 use crate::cursor::{Cursor, Turn, position, push_turn, start, token_at, turn_at};
 use hs_syntax::token::Token;
@@ -123,4 +124,15 @@ pub fn lexes_or_not()
 /// Behind the bytes of some items stands what follows them.
 pub fn items_lead_to_bytes()
     ensures { (source : List ℕ) (is : List (Kind × List ℕ)) (c d : Cursor) (ts : List Token) (rest : List ℕ) → Leads is (ahead source c) rest → Tokens source c is ts d → ahead source d ≡ rest }
+{}
+
+/// The lexemes of a source are those that the slow function reads, and its first bad place is the one that it finds.
+pub fn reading_is_lexing()
+    ensures lexes { (source : List ℕ) (ts : List Token) → (read_source source ≡ Ok ts) ↔ Lexes source ts }
+    ensures bad { (source : List ℕ) (at : Pos) → (read_source source ≡ Err at) ↔ IsFirstBad source at }
+{}
+
+/// Each source has lexemes, or a first place at which nothing begins.
+pub fn every_source_is_read()
+    ensures { (source : List ℕ) → ((ts : List Token) × Lexes source ts) ⊎ ((at : Pos) × IsFirstBad source at) }
 {}
