@@ -1,6 +1,6 @@
 -- The slow reading of a source is the reading of its lexemes.
 use Rattle.std.specs.Bool.{Decides}
-use Rattle.std.specs.Prelude.{Option, Some, None, Result, Ok, Err, if◌then◌else◌}
+use Rattle.std.specs.Prelude.{Option, Some, None, MatchOption, Result, Ok, Err, if◌then◌else◌}
 use Rattle.std.proofs.Common.{◌≡◌, ◌⊎◌, inl, inr, ⊎_elim, ℕ, zero, suc, ◌<◌, ◌≤◌, Bool, true, false, List, [], ◌∷◌, ◌++◌, length, refl, ap, sym, ◌∙◌, subst, arith, append_assoc, length-append}
 use Rattle.std.proofs.lemmas.Bool.{false≢true, cases_lt}
 use Rattle.mk_base.specs.declared.place.Pos.{Pos}
@@ -106,7 +106,7 @@ best [] done = best_end done (kind_among kinds done []) (among kinds done [])
 best (c ∷ r) done = best_more done r c (item_from (done ++ c ∷ []) r) (kind_among kinds done (c ∷ r)) (best r (done ++ c ∷ [])) (among kinds done (c ∷ r))
 
 -- the item that stands at the front
-abbrev pub Stands : List ℕ → Option (Kind × List ℕ) → Type 0
+abbrev Stands : List ℕ → Option (Kind × List ℕ) → Type 0
 Stands cs (Some i) = (rest : List ℕ) × IsItem i.0 i.1 cs rest
 Stands cs None = NoItem cs
 
@@ -114,8 +114,15 @@ stands_by : (cs : List ℕ) (o : Option (Kind × List ℕ)) → Best [] cs o →
 stands_by cs (Some i) h = (h.0, record { front = h.1; is = h.2; longest = λ j l r x e. h.4 j l r x e (omega arith) })
 stands_by cs None h = λ j l r x e. h j l r x e (omega arith)
 
-pub stands : (cs : List ℕ) → Stands cs (item_at cs)
+stands : (cs : List ℕ) → Stands cs (item_at cs)
 stands cs = stands_by cs (item_from [] cs) (best cs [])
+
+pub standing : (cs : List ℕ) → MatchOption (item_at cs) (NoItem cs) (λ i. (rest : List ℕ) × IsItem i.0 i.1 cs rest)
+standing cs = by_answer (item_at cs) (stands cs)
+  where
+    by_answer : (o : Option (Kind × List ℕ)) → Stands cs o → MatchOption o (NoItem cs) (λ i. (rest : List ℕ) × IsItem i.0 i.1 cs rest)
+    by_answer (Some i) h = h
+    by_answer None h = h
 
 -- the turn over an item
 counted : (s : Stage) (k : Kind) (l : List ℕ) (b : Bool) → Decides b (IsToken s k l) → Counts s k l (if b then Some (kind_of k l) else None) (if b then behind_token s k l else s)
