@@ -1,5 +1,5 @@
 -- The kinds of lexemes (Haskell 2010 Report, section 2.2).
-use Rattle.std.specs.Prelude.{ℕ, Bool, true, false, ◌==◌, List, [], ◌∷◌, Option, Some, None, if◌then◌else◌}
+use Rattle.std.specs.Prelude.{ℕ, Bool, false, ◌==◌, List, [], ◌∷◌, Option, Some, None, if◌then◌else◌}
 use Rattle.hs_syntax.specs.declared.token.TokenKind.{TokenKind}
 use Rattle.hs_syntax.specs.declared.token.TokenKind.TheVariants as token
 use Rattle.hs_lex.specs.declared.class.Class.{Class}

@@ -1,15 +1,18 @@
 //! The lexemes of a source.
-ghost use Rattle.std.specs.Prelude.{◌≡◌, ◌++◌, ◌≤◌, List, [], ℕ, length, drop, IfOk, Ok, Err, Some, None};
+ghost use Rattle.std.specs.Prelude.{◌≡◌, ◌↔◌, ◌⊎◌, ◌++◌, ◌∷◌, ◌≤◌, List, [], ℕ, true, false, codes, length, drop, IfOk, MatchOption, Ok, Err, Some, None};
 ghost use Rattle.source_text.specs.Characters.{characters};
 ghost use Rattle.mk_base.specs.declared.place.Pos.{Pos};
 ghost use Rattle.hs_syntax.specs.declared.token.Token.{Token};
 ghost use Rattle.hs_lex.specs.declared.item.Kind.{Kind};
 ghost use Rattle.hs_lex.specs.declared.cursor.Cursor.{Cursor};
-ghost use Rattle.hs_lex.specs.Items.{Leads};
-ghost use Rattle.hs_lex.specs.Tokens.{Lexes, IsFirstBad, IsReached, IsNext, IsBlank, IsBadFrom, IsPlace, Tokens, ahead};
+ghost use Rattle.hs_lex.specs.declared.cursor.Stage.{Stage};
+ghost use Rattle.hs_lex.specs.Items.{Is, IsItem, NoItem, Leads};
+ghost use Rattle.hs_lex.specs.Tokens.{Lexes, IsFirstBad, IsReached, IsNext, IsBlank, IsBadFrom, IsPlace, IsToken, Tokens, ahead};
+ghost use Rattle.hs_lex.specs.Deciding.{is, is_token};
+ghost use Rattle.hs_lex.specs.Slow.{item_at, read_source};
 
 use crate::cursor::{Cursor, Turn, position, push_turn, start, token_at, turn_at};
-use hs_syntax::token::Token;
+use hs_syntax::token::{Token, TokenKind};
 use mk_base::list::List as TokenList;
 use mk_base::place::Pos;
 use std::alloc::Global;
@@ -123,4 +126,29 @@ pub fn lexes_or_not()
 /// Behind the bytes of some items stands what follows them.
 pub fn items_lead_to_bytes()
     ensures { (source : List ℕ) (is : List (Kind × List ℕ)) (c d : Cursor) (ts : List Token) (rest : List ℕ) → Leads is (ahead source c) rest → Tokens source c is ts d → ahead source d ≡ rest }
+{}
+
+/// The tests of a text tell its kinds and whether it is a lexeme, and the slow search finds the item that stands at a
+/// place, or that none does.
+pub fn items_are_decided()
+    ensures kind { (k : Kind) (l rest : List ℕ) → (is k l rest ≡ true) ↔ Is k l rest }
+    ensures lexeme { (s : Stage) (k : Kind) (l : List ℕ) → (is_token s k l ≡ true) ↔ IsToken s k l }
+    ensures item { (cs : List ℕ) → MatchOption (item_at cs) (NoItem cs) (λ i. (rest : List ℕ) × IsItem i.0 i.1 cs rest) }
+{}
+
+/// The lexemes of a source are those that the slow function reads, and its first bad place is the one that it finds.
+pub fn reading_is_lexing()
+    ensures lexes { (source : List ℕ) (ts : List Token) → (read_source source ≡ Ok ts) ↔ Lexes source ts }
+    ensures bad { (source : List ℕ) (at : Pos) → (read_source source ≡ Err at) ↔ IsFirstBad source at }
+{}
+
+/// Each source has lexemes, or a first place at which nothing begins.
+pub fn every_source_is_read()
+    ensures { (source : List ℕ) → ((ts : List Token) × Lexes source ts) ⊎ ((at : Pos) × IsFirstBad source at) }
+{}
+
+/// A name behind a blank, and a string that isn't closed, as the slow function reads them.
+pub fn short_sources_are_read()
+    ensures name { read_source (codes " x") ≡ Ok (record { kind = TokenKind.VarId; text = codes "x"; start = 1; end = 2; at = record { line = 1; col = 2 }; put = false; sign = None } ∷ []) }
+    ensures string { read_source (codes "a \"b") ≡ Err (record { line = 1; col = 3 }) }
 {}
