@@ -4,3 +4,4 @@ pub mod Own
 pub mod Balance
 pub mod Moves
 pub mod Flat
+pub mod Settled

@@ -1,12 +1,19 @@
--- What can be reached below each frame.
-use Rattle.std.specs.Prelude.{◌≡◌, Bool, false, List, [], ◌∷◌}
+-- What can be reached below each frame, and whether a semicolon changes anything there.
+use Rattle.std.specs.Prelude.{◌≡◌, Bool, true, false, ◌&&◌, ◌||◌, List, [], ◌∷◌}
 use Rattle.hs_layout.specs.declared.frame.Frame.{Frame}
 use Rattle.hs_layout.specs.declared.frame.Note.TheVariants as note
 use Rattle.hs_layout.specs.declared.frames.Below.{Below}
 use Rattle.hs_layout.specs.declared.frames.Entry.{Entry}
 use Rattle.hs_layout.specs.declared.look.Target.{Target}
 use Rattle.hs_layout.specs.declared.look.Target.TheVariants as target
+use Rattle.hs_layout.specs.Frames.{is_renewed}
 use Rattle.hs_layout.specs.Looks.{reaches}
+use Rattle.hs_layout.specs.Rules.{is_context}
+
+-- a semicolon leaves each frame up to the enclosing context as it is
+abbrev pub is_settled : Bool → List Frame → Bool
+is_settled keep [] = true
+is_settled keep (f ∷ fs) = is_renewed keep f && (is_context f.sort || is_settled keep fs)
 
 abbrev pub below_of : List Frame → Below
 below_of fs = record {
@@ -19,6 +26,8 @@ below_of fs = record {
   if_note = reaches (target.Note note.If) fs;
   then_note = reaches (target.Note note.Then) fs;
   let_note = reaches (target.Note note.Let) fs;
+  bare = is_settled false fs;
+  unseen = is_settled true fs;
 }
 
 abbrev pub flag : Target → Below → Bool

@@ -1,5 +1,5 @@
 -- The frames of layout, and what each has seen.
-use Rattle.std.specs.Prelude.{Bool, true, false, ◌||◌, not}
+use Rattle.std.specs.Prelude.{Bool, true, false, ◌||◌, ◌&&◌, not}
 use Rattle.hs_layout.specs.declared.role.Role.{Role}
 use Rattle.hs_layout.specs.declared.role.Role.TheVariants as role
 use Rattle.hs_layout.specs.declared.frame.Context.{Context}
@@ -10,6 +10,7 @@ use Rattle.hs_layout.specs.declared.frame.Lead.{Lead}
 use Rattle.hs_layout.specs.declared.frame.Lead.TheVariants as lead
 use Rattle.hs_layout.specs.declared.frame.Seen.{Seen}
 use Rattle.hs_layout.specs.declared.frame.Frame.{Frame}
+use Rattle.hs_layout.specs.Notes.{is_none_left}
 
 -- a block whose brace is put
 abbrev pub is_block : Context → Bool
@@ -26,6 +27,17 @@ is_put f = is_put_in f.sort f.context
 
 abbrev pub nothing_seen : Seen
 nothing_seen = record { lead = lead.Nothing; bar = false; guard = false; body = false; bound = false; plain = false }
+
+abbrev pub is_nothing : Lead → Bool
+is_nothing lead.Nothing = true
+is_nothing _ = false
+
+abbrev pub is_unseen : Seen → Bool
+is_unseen s = is_nothing s.lead && not (s.bar || (s.guard || (s.body || (s.bound || s.plain))))
+
+-- a frame that a semicolon leaves as it is
+abbrev pub is_renewed : Bool → Frame → Bool
+is_renewed keep f = is_unseen f.seen && (keep || is_none_left f.notes)
 
 -- only variables, operators in parentheses and commas so far, and one more
 abbrev pub more_names : Lead → Lead

@@ -16,6 +16,10 @@ abbrev pub has : Note → List Note → Bool
 has n [] = false
 has n (m ∷ ms) = if same_note m n then true else has n ms
 
+abbrev pub is_none_left : List Note → Bool
+is_none_left [] = true
+is_none_left (n ∷ ns) = false
+
 abbrev pub waits_of : List Note → Waits
 waits_of ns = record { case_note = has note.Case ns; if_note = has note.If ns; then_note = has note.Then ns; let_note = has note.Let ns }
 

@@ -1,6 +1,6 @@
 //! The frames of layout: what is open where a lexeme stands.
 ghost use Rattle.std.specs.Prelude.{◌≡◌};
-ghost use Rattle.hs_layout.specs.Frames.{is_block, is_put, nothing_seen, more_names, other_lead, lead_after, see, not_plain, takes_comma};
+ghost use Rattle.hs_layout.specs.Frames.{is_block, is_put, nothing_seen, is_nothing, is_unseen, is_renewed, more_names, other_lead, lead_after, see, not_plain, takes_comma};
 
 use crate::notes::Notes;
 use crate::role::Role;
@@ -110,6 +110,30 @@ pub fn nothing_seen() -> Seen
         bound: false,
         plain: false,
     }
+}
+
+/// Whether no lexeme has come yet.
+fn is_nothing(lead: Lead) -> bool
+    ensures { result ≡ is_nothing lead }
+{
+    match lead {
+        Lead::Nothing => true,
+        _ => false,
+    }
+}
+
+/// Whether nothing has come yet.
+fn is_unseen(seen: Seen) -> bool
+    ensures { result ≡ is_unseen seen }
+{
+    is_nothing(seen.lead) && !(seen.bar || seen.guard || seen.body || seen.bound || seen.plain)
+}
+
+/// Whether a semicolon leaves a frame as it is: nothing is seen, and no note stands that isn't kept.
+pub fn is_renewed(keep: bool, frame: &Frame) -> bool
+    ensures { result ≡ is_renewed keep frame.now }
+{
+    is_unseen(frame.seen) && (keep || frame.notes.is_empty())
 }
 
 /// The lead behind a variable, an operator in parentheses or a comma.

@@ -1,16 +1,19 @@
 //! The frames that are open.
-ghost use Rattle.std.specs.Prelude.{◌≡◌, ◌∷◌, [], OnOk, OnErr, MatchOption, IfNone, drop};
+ghost use Rattle.std.specs.Prelude.{◌≡◌, ◌∷◌, [], if◌then◌else◌, OnOk, OnErr, MatchOption, IfNone, drop};
 ghost use Rattle.hs_layout.specs.Looks.{reaches};
-ghost use Rattle.hs_layout.specs.Below.{below_of, flag, IsSought};
+ghost use Rattle.hs_layout.specs.Below.{below_of, flag, is_settled, IsSought};
 
-use crate::frame::{Frame, Note};
+use crate::frame::{Frame, Note, Sort, is_renewed};
 use crate::look::{Look, Target, look_at};
 use crate::stack::Stack;
 use mk_base::memory::NoMemory;
 use std::alloc::Global;
 use std::marker::Model;
 
-/// Which frames a rule can reach below a frame, so that no rule searches past frames that stay.
+/// What is known of the frames below a frame, so that no rule passes frames that stay as they are.
+///
+/// First which frames a rule can reach there. Then whether a semicolon changes nothing in those up to the enclosing
+/// context: bare where it drops the notes, and unseen where it keeps them.
 #[derive(Clone, Copy)]
 pub struct Below {
     pub paren: bool,
@@ -22,6 +25,8 @@ pub struct Below {
     pub if_note: bool,
     pub then_note: bool,
     pub let_note: bool,
+    pub bare: bool,
+    pub unseen: bool,
 }
 
 /// A frame, and what can be reached below it.
@@ -68,6 +73,13 @@ fn flag(target: Target, below: &Below) -> bool
     }
 }
 
+/// Whether a semicolon changes nothing below a frame, up to the enclosing context.
+fn settled_below(keep: bool, below: &Below) -> bool
+    ensures { result ≡ (if keep then below.now.unseen else below.now.bare) }
+{
+    if keep { below.unseen } else { below.bare }
+}
+
 impl Frames {
     /// No frames, which take no memory yet.
     pub fn new(alloc: Global) -> Frames
@@ -103,7 +115,20 @@ impl Frames {
         }
     }
 
-    /// What can be reached from the nearest frame down.
+    /// Whether a semicolon changes nothing in the frames up to the enclosing context. Notes are kept or dropped.
+    pub fn is_settled(&self, keep: bool) -> bool
+        ensures { result ≡ is_settled keep self.now }
+    {
+        match self.entries.get(0) {
+            Some(entry) => {
+                is_renewed(keep, &entry.frame)
+                    && (entry.frame.sort == Sort::Context || settled_below(keep, &entry.below))
+            }
+            None => true,
+        }
+    }
+
+    /// What is known of the frames from the nearest down.
     fn below(&self) -> Below
         ensures { result ≡ below_of self.now }
     {
@@ -117,6 +142,8 @@ impl Frames {
             if_note: self.reaches(Target::Note(Note::If)),
             then_note: self.reaches(Target::Note(Note::Then)),
             let_note: self.reaches(Target::Note(Note::Let)),
+            bare: self.is_settled(false),
+            unseen: self.is_settled(true),
         }
     }
 

@@ -1,6 +1,6 @@
 //! The words that wait for others.
 ghost use Rattle.std.specs.Prelude.{◌≡◌, ◌∷◌, [], OnOk, OnErr, MatchOption, IfNone, true, if◌then◌else◌};
-ghost use Rattle.hs_layout.specs.Notes.{same_note, has, waits_of};
+ghost use Rattle.hs_layout.specs.Notes.{same_note, has, is_none_left, waits_of};
 
 use crate::frame::Note;
 use crate::stack::Stack;
@@ -98,6 +98,16 @@ impl Notes {
             Note::If => waits.if_note,
             Note::Then => waits.then_note,
             Note::Let => waits.let_note,
+        }
+    }
+
+    /// Whether no note is left.
+    pub fn is_empty(&self) -> bool
+        ensures { result ≡ is_none_left self.now }
+    {
+        match self.entries.get(0) {
+            Some(_) => false,
+            None => true,
         }
     }
 

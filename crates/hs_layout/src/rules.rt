@@ -1,5 +1,5 @@
 //! The rules of layout, each on the frames that are open and the signs that are put.
-ghost use Rattle.std.specs.Prelude.{◌≡◌, ◌∷◌, OnOk, if◌then◌else◌};
+ghost use Rattle.std.specs.Prelude.{◌≡◌, ◌∷◌, OnOk, MatchOption, IfNone, if◌then◌else◌};
 ghost use Rattle.hs_layout.specs.Follows.{Follows};
 ghost use Rattle.hs_layout.specs.Below.{IsSought};
 ghost use Rattle.hs_layout.specs.Looks.{look_top, reaches};
@@ -138,12 +138,30 @@ fn renewed(alloc: Global, keep: bool, frame: Frame) -> Frame
     frame
 }
 
+/// Takes the nearest frame off, where a semicolon changes it or one below it up to the enclosing context.
+#[tactic(auto, using(crate::proofs::Settled::settled_stays))]
+fn pop_unsettled(keep: bool, frames: &mut Frames) -> Option<Frame>
+    ensures taken { MatchOption result (renew keep frames.old ≡ frames.old) (λ x. frames.old ≡ x ∷ frames.new) }
+    ensures settled { IfNone result (frames.new ≡ frames.old) }
+{
+    if frames.is_settled(keep) {
+        return None;
+    }
+    frames.pop()
+}
+
 /// Behind a semicolon nothing is seen up to the enclosing context, and the notes go unless they are kept.
+///
+/// The walk ends where the frames that are left are settled. Each that it takes but the nearest lies under a frame
+/// whose entry says that what is below isn't settled. Behind the walk that entry says that it is, and so it stays while
+/// the frame is open: a lexeme touches the nearest frame alone, and another walk unsettles nothing. So all walks
+/// together take at most one frame each, and two for each frame that was ever opened (one where notes are kept, one
+/// where they go): the whole is linear in the tokens.
 pub fn renew(alloc: Global, keep: bool, frames: &mut Frames) -> Result<(), NoMemory>
     ensures { OnOk result (frames.new ≡ renew keep frames.old) }
 {
     let mut held = Stack::new(alloc);
-    while let Some(frame) = frames.pop() {
+    while let Some(frame) = pop_unsettled(keep, frames) {
         let whole = frame.sort == Sort::Context;
         held.push(renewed(alloc, keep, frame))?;
         if whole {

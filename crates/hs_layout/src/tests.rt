@@ -494,6 +494,63 @@ fn brackets(rt: HostRuntime) -> Result<(), Fail> {
     Ok(())
 }
 
+/// A semicolon within brackets clears the frames up to the enclosing context, however often one came before.
+#[test]
+fn semicolons_in_brackets(rt: HostRuntime) -> Result<(), Fail> {
+    const ROWS: [(&str, &str); 12] = [
+        (
+            "f = ( if ( a b ) do c then d )",
+            "{ f = ( if ( a b ) do { c } then d ) }",
+        ),
+        (
+            "f = ( if ( a ; b ) do c then d )",
+            "{ f = ( if ( a ;' b ) do { c then d } ) }",
+        ),
+        (
+            "f = ( if ( a\nb ) do c then d )",
+            "{ f = ( if ( a ; b ) do { c then d } ) }",
+        ),
+        (
+            "f = ( if [ ( a ; b ) ] do c then d )",
+            "{ f = ( if [ ( a ;' b ) ] do { c then d } ) }",
+        ),
+        (
+            "f = ( if ( a ; then b ) do c then d )",
+            "{ f = ( if ( a ;' then b ) do { c } then d ) }",
+        ),
+        (
+            "f = ( if ( a ; then b ; c ) do d then e )",
+            "{ f = ( if ( a ;' then b ;' c ) do { d then e } ) }",
+        ),
+        (
+            "f = ( ( a ; b ; c ) if ( d ; e ) do g then h )",
+            "{ f = ( ( a ;' b ;' c ) if ( d ;' e ) do { g then h } ) }",
+        ),
+        (
+            "f = ( if { ( a ; b ) } do c then d )",
+            "{ f = ( if {' ( a ;' b ) }' do { c } then d ) }",
+        ),
+        (
+            "f = ( if do ( a ; b ) do c then d )",
+            "{ f = ( if do { ( a ;' b ) do { c } } then d ) }",
+        ),
+        (
+            "f = ( case x of a ( ; + ) , d -> e )",
+            "{ f = ( case x of { a ( ;' + ) , d -> e } ) }",
+        ),
+        (
+            "f = ( case x of a | ( ( b ; c ) ) , d )",
+            "{ f = ( case x of { a | ( ( b ;' c ) ) } , d ) }",
+        ),
+        (
+            "f = ( case x of a | ( b ; then c ) , d )",
+            "{ f = ( case x of { a | ( b ;' then c ) } , d ) }",
+        ),
+    ];
+    run(&rt, rt.alloc(), &ROWS)?;
+    Ok(())
+}
+
 /// Pragmas stand for nothing, and texts may go over lines.
 #[test]
 fn pragmas_and_texts(rt: HostRuntime) -> Result<(), Fail> {
