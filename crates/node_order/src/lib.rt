@@ -1,0 +1,6 @@
+//! What numbered nodes need, and the order of the nodes by it.
+#![tactic(auto)]
+
+pub mod needs;
+pub mod order;
+pub mod steps;
