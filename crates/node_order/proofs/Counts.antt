@@ -1,8 +1,8 @@
 -- How many needs of a node are not listed yet.
-use Rattle.std.proofs.Common.{◌≡◌, ◌↔◌, ℕ, zero, suc, ◌+◌, ◌<◌, ◌≤◌, true, false, ◌||◌, List, [], nat_eq, refl, ap, sym, ◌∙◌, subst, inl, inr, arith}
-use Rattle.std.proofs.lemmas.Bool.{cases_eq, cases_lt}
+use Rattle.std.proofs.Common.{◌≡◌, ℕ, zero, suc, ◌+◌, ◌<◌, ◌≤◌, true, false, ◌||◌, List, [], nat_eq, refl, ap, sym, ◌∙◌, inl, inr, arith}
+use Rattle.std.proofs.lemmas.Bool.{cases_eq}
 use Rattle.number_set.specs.Bits.{has}
-use Rattle.number_set.proofs.Booleans.{both_ways, is_same, is_other, from_test}
+use Rattle.number_set.proofs.Booleans.{both_ways, is_same, is_other}
 use Rattle.number_set.proofs.Words.{none_has}
 use Rattle.node_order.specs.Counts.{left, fewer}
 

@@ -4,3 +4,5 @@
 pub mod needs;
 pub mod order;
 pub mod steps;
+#[cfg(test)]
+mod tests;

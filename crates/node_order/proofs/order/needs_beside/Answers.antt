@@ -1,4 +1,4 @@
-use Rattle.std.proofs.Common.{◌≡◌, ◌+◌, ◌≤◌, true, false, sym, ap, ◌∙◌, arith}
+use Rattle.std.proofs.Common.{◌≡◌, ◌+◌, true, false, sym, ap, ◌∙◌, arith}
 use Rattle.number_set.specs.Bits.{has}
 use Rattle.node_order.proofs.Counts.{beside_more, beside_same}
 use Rattle.node_order.proofs.order.needs_beside.Goals as goal

@@ -1,5 +1,4 @@
 use Rattle.std.proofs.Common.{◌≡◌, ◌<◌, ◌≤◌, ℕ, List, [], true, false, length, arith, rules, ap, sym, ◌∙◌, subst, get_or, drop, ◌+◌}
-use Rattle.std.specs.List.{Contains}
 use Rattle.number_set.specs.Bits.{has, absent}
 use Rattle.number_set.proofs.Booleans.{not_true}
 use Rattle.number_set.proofs.Absent.{none_there, some_absent, one_less}

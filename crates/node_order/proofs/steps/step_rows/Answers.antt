@@ -1,4 +1,4 @@
-use Rattle.std.proofs.Common.{◌≡◌, ◌↔◌, ◌+◌, ℕ, List, Vec, length, take, get_or, ap, sym, ◌∙◌, subst, arith, refl, rules}
+use Rattle.std.proofs.Common.{◌≡◌, ◌↔◌, ◌+◌, ℕ, List, Vec, length, ap, sym, ◌∙◌, subst, refl}
 use Rattle.std.specs.Global.{Global}
 use Rattle.number_set.specs.Bits.{room_for}
 use Rattle.node_reach.specs.Reach.{Reach}
