@@ -34,12 +34,6 @@ row_in_range g n i v h lt e =
     let row : get_or (lists g) i [] ≡ v.items = row_at g i v lt ∙ ap (λ w. w.items) (sym e) in
     subst (λ (xs : List ℕ). All (λ b. b < n) xs) row (h i [] (let s : i < length (lists g) = simp length-map lt in s))
 
-pub room_pushed : (r : ℕ) (rows new : List (List ℕ)) (s : List ℕ) → new ≡ rows ++ s ∷ [] → HaveRoom r rows → room s ≡ r → HaveRoom r new
-room_pushed r rows new s e h one = subst (HaveRoom r) (sym e) (All-append (λ (row : List ℕ). room row ≡ r) rows (s ∷ []) h (λ k d lt. elim (cases_lt 0 k) [
-  | inl more ↦ absurd (omega arith)
-  | inr less ↦ let zero_k : k ≡ 0 = omega arith in subst (λ x. room (get_or (s ∷ []) x d) ≡ r) (sym zero_k) one
-]))
-
 row_of : (g : List (Vec ℕ Global)) (i : ℕ) (v : Vec ℕ Global) (d : List ℕ) → i < length g → v ≡ get_or g i v → get_or (lists g) i d ≡ v.items
 row_of g i v d lt e = sym (get_or_default (lists g) i [] d (let s : i < length (lists g) = simp length-map lt in s)) ∙ row_at g i v lt ∙ ap (λ w. w.items) (sym e)
 
