@@ -1,13 +1,12 @@
 -- Rows of lists and of bits.
-use Rattle.std.proofs.Common.{◌≡◌, ℕ, zero, suc, ◌+◌, ◌<◌, ◌≤◌, false, List, [], ◌∷◌, ◌++◌, get_or, length, refl, ap, sym, ◌∙◌, subst, arith, Vec, inl, inr}
+use Rattle.std.proofs.Common.{◌≡◌, ℕ, zero, suc, ◌+◌, ◌<◌, ◌≤◌, false, List, [], ◌∷◌, get_or, length, refl, ap, sym, ◌∙◌, subst, arith, Vec, inl, inr}
 use Rattle.std.specs.Global.{Global}
 use Rattle.std.specs.List.{All}
 use Rattle.std.proofs.lemmas.Bool.{cases_lt}
 use Rattle.std.proofs.lemmas.List.{length-map, get_or_past, get_or_default}
-use Rattle.std.proofs.lemmas.List.Elements.{All-append}
-use Rattle.number_set.specs.Bits.{has, room}
+use Rattle.number_set.specs.Bits.{has}
 use Rattle.number_set.proofs.Words.{none_has}
-use Rattle.node_reach.specs.Edges.{lists, HasEdge, InRange, HaveRoom}
+use Rattle.node_reach.specs.Edges.{lists, HasEdge, InRange}
 
 -- beyond the rows nothing is related
 pub beyond : (rows : List (List ℕ)) (a b : ℕ) → length rows ≤ a → has (get_or rows a []) b ≡ false
