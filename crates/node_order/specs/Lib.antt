@@ -1,0 +1,4 @@
+pub mod Needs
+pub mod Away
+pub mod Counts
+pub mod Order

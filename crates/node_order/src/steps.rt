@@ -1,0 +1,93 @@
+//! The graph of steps: the nodes, and behind them a node for each loop, so that its edges stay few.
+
+ghost use Rattle.std.specs.Prelude.{◌≡◌, ◌⊎◌, ◌<◌, ◌≤◌, ◌+◌, ◌↔◌, ℕ, List, IfOk, get_or, length};
+ghost use Rattle.std.specs.List.{All, Contains};
+ghost use Rattle.number_set.specs.Bits.{room_for};
+ghost use Rattle.node_reach.specs.Reach.{Reach};
+ghost use Rattle.node_reach.specs.Edges.{lists, HasEdge, InRange, Relates, HaveRoom};
+ghost use Rattle.node_order.specs.Needs.{Hub, Leads, InOneNumber};
+ghost use Rattle.node_order.specs.Away.{LeadsAway};
+
+use mk_base::memory::NoMemory;
+use node_reach::search::reach_rows;
+use number_set::NumberSet;
+use std::alloc::Global;
+
+/// The targets of a node, and the node of each other loop that they are in.
+fn node_row(
+    alloc: Global,
+    targets: &[usize],
+    loops: &[usize],
+    own: usize,
+) -> Result<Vec<usize>, NoMemory>
+    requires targets { All (λ b. b < length loops.now) targets.now }
+    requires loops { All (λ k. k < length loops.now) loops.now }
+    ensures { IfOk result (λ row. (y : ℕ) → Contains row.items y ↔ (Contains targets.now y ⊎ LeadsAway targets.now loops.now own y)) }
+{
+    let mut row = Vec::from_slice(alloc, targets)?;
+    for z in targets {
+        let theirs = loops[*z];
+        if theirs != own {
+            row.push(loops.len() + theirs)?;
+        }
+    }
+    Ok(row)
+}
+
+/// The nodes of a loop.
+fn members(alloc: Global, loops: &[usize], own: usize) -> Result<Vec<usize>, NoMemory>
+    ensures { IfOk result (λ row. (b : ℕ) → Contains row.items b ↔ ((b < length loops.now) × (own ≡ get_or loops.now b 0))) }
+{
+    let mut row = Vec::new(alloc);
+    for b in 0..loops.len() {
+        if loops[b] == own {
+            row.push(b)?;
+        }
+    }
+    Ok(row)
+}
+
+/// The graph of steps over a graph, which has the targets of each node 0, 1, .. in a list, from the number of each
+/// node's loop, which is below the number of nodes. Node n + k, where there are n nodes, stands for the loop k: an edge
+/// into another loop leads to that loop's node too, and this one to each node of the loop. NoMemory where memory runs
+/// out.
+pub fn step_graph(
+    alloc: Global,
+    graph: &[Vec<usize>],
+    loops: &[usize],
+) -> Result<Vec<Vec<usize>>, NoMemory>
+    requires range { InRange (lists graph.now) (length loops.now) }
+    requires len { length graph.now ≡ length loops.now }
+    requires loops { All (λ k. k < length loops.now) loops.now }
+    ensures len { IfOk result (λ g. length g.items ≡ length loops.now + length loops.now) }
+    ensures edges { IfOk result (λ g. (x y : ℕ) → HasEdge (lists g.items) x y ↔ Hub (HasEdge (lists graph.now)) (λ a. get_or loops.now a 0) (length loops.now) x y) }
+{
+    let mut rows = Vec::new(alloc);
+    for a in 0..loops.len() {
+        rows.push(node_row(alloc, &graph[a], loops, loops[a])?)?;
+    }
+    for k in 0..loops.len() {
+        rows.push(members(alloc, loops, k)?)?;
+    }
+    Ok(rows)
+}
+
+/// A row for each node with what it reaches by steps: an edge, and where that leads into another loop, on to any node
+/// of that loop. The rows have room for twice the number of nodes. NoMemory where memory runs out.
+pub fn step_rows(
+    alloc: Global,
+    graph: &[Vec<usize>],
+    loops: &[usize],
+) -> Result<Vec<NumberSet>, NoMemory>
+    requires range { InRange (lists graph.now) (length loops.now) }
+    requires len { length graph.now ≡ length loops.now }
+    requires loops { All (λ k. k < length loops.now) loops.now }
+    ensures len { IfOk result (λ rows. length rows.items ≡ length loops.now) }
+    ensures room { IfOk result (λ rows. HaveRoom (room_for (length loops.now + length loops.now)) rows.items) }
+    ensures steps { IfOk result (λ rows. (a b : ℕ) → a < length loops.now → b < length loops.now → Relates rows.items a b ↔ Reach (Leads (HasEdge (lists graph.now)) (InOneNumber (HasEdge (lists graph.now)) (λ c. get_or loops.now c 0) (length loops.now)) (length loops.now)) a b) }
+{
+    let steps = step_graph(alloc, graph, loops)?;
+    let mut rows = reach_rows(alloc, &steps)?;
+    rows.truncate(loops.len());
+    Ok(rows)
+}

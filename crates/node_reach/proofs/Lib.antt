@@ -1,0 +1,5 @@
+pub mod ReachLaws
+pub mod Rows
+pub mod Searches
+pub mod Least
+pub mod Classes

@@ -1,0 +1,4 @@
+pub mod Reach
+pub mod Edges
+pub mod Search
+pub mod Mates

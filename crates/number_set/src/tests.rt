@@ -1,0 +1,26 @@
+//! What no clause says: that calls succeed with ample memory.
+use crate::NumberSet;
+use std::test::Fail;
+
+#[test]
+fn numbers_stand_in_sets(rt: HostRuntime) -> Result<(), Fail> {
+    let mut first = NumberSet::empty(rt.alloc(), 130)?;
+    first.insert(0);
+    first.insert(63);
+    first.insert(64);
+    first.insert(130);
+    assert!(rt; first.contains(63) && first.contains(64) && !first.contains(65));
+    assert!(rt; first.contains(130) && !first.contains(2));
+    let mut second = first.copy(rt.alloc())?;
+    second.insert(5);
+    second.insert(127);
+    assert!(rt; first.is_within(&second) && !second.is_within(&first));
+    assert_eq!(rt; first.least_outside(&second, 130), None);
+    assert_eq!(rt; second.least_outside(&first, 130), Some(5));
+    first.insert(5);
+    assert_eq!(rt; second.least_outside(&first, 128), Some(127));
+    assert_eq!(rt; second.least_outside(&first, 127), None);
+    first.add_all(&second);
+    assert!(rt; second.is_within(&first));
+    Ok(())
+}
