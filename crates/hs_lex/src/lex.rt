@@ -1,8 +1,9 @@
 //! The lexemes of a source.
-ghost use Rattle.std.specs.Prelude.{◌≡◌, ◌↔◌, ◌⊎◌, ◌++◌, ◌∷◌, ◌≤◌, List, [], ℕ, true, false, codes, length, drop, IfOk, MatchOption, Ok, Err, Some, None};
+ghost use Rattle.std.specs.Prelude.{◌≡◌, ◌↔◌, ◌⊎◌, ◌++◌, ◌∷◌, ◌≤◌, List, [], ℕ, true, false, codes, length, drop, map, IfOk, MatchOption, Ok, Err, Some, None};
 ghost use Rattle.source_text.specs.Characters.{characters};
 ghost use Rattle.mk_base.specs.declared.place.Pos.{Pos};
 ghost use Rattle.hs_syntax.specs.declared.token.Token.{Token};
+ghost use Rattle.hs_syntax.specs.Rising.{AreRising};
 ghost use Rattle.hs_lex.specs.declared.item.Kind.{Kind};
 ghost use Rattle.hs_lex.specs.declared.cursor.Cursor.{Cursor};
 ghost use Rattle.hs_lex.specs.declared.cursor.Stage.{Stage};
@@ -121,6 +122,11 @@ pub fn first_bad_is_unique()
 /// No source has both.
 pub fn lexes_or_not()
     ensures { (source : List ℕ) (ts : List Token) (a : Pos) → Lexes source ts → IsFirstBad source a → ⊥ }
+{}
+
+/// Each lexeme stands before those that follow it: on an earlier line, or further left on the same line.
+pub fn lexemes_rise()
+    ensures { (source : List ℕ) (ts : List Token) → Lexes source ts → AreRising (map (λ (t : Token). t.at) ts) }
 {}
 
 /// Behind the bytes of some items stands what follows them.
