@@ -1,4 +1,8 @@
-//! The tokens of a source.
+//! The tokens of a source, and the trees that are read from them.
 #![tactic(auto)]
 
+pub mod header;
+pub mod name_ref;
+#[cfg(test)]
+mod tests;
 pub mod token;
