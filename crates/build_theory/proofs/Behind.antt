@@ -7,14 +7,14 @@ use Rattle.build_theory.proofs.Lists.{both_ways, differ, clash, and_both, then_h
 use Rattle.build_theory.proofs.Whole.{order_is_whole}
 use Rattle.build_theory.proofs.Points.{taken_at}
 
-fails_in : {X : Type 0} (p : X → Bool) (xs : List X) → list_all p xs ≡ false → (x : X) × IsIn x xs × (p x ≡ false)
+pub fails_in : {X : Type 0} (p : X → Bool) (xs : List X) → list_all p xs ≡ false → (x : X) × IsIn x xs × (p x ≡ false)
 fails_in p [] e = absurd (differ e)
 fails_in p (x ∷ xs) e =
     both_ways (p x)
     (λ y. let k : list_all p (x ∷ xs) ≡ list_all p xs = rw y refl in let s = fails_in p xs (sym k ∙ e) in (s.0, inr s.1, s.2))
     (λ y. (x, inl refl, y))
 
-fails_both : (b c : Bool) → (not b || c) ≡ false → (b ≡ true) × (c ≡ false)
+pub fails_both : (b c : Bool) → (not b || c) ≡ false → (b ≡ true) × (c ≡ false)
 fails_both true c e = (refl, e)
 fails_both false c e = absurd (differ e)
 
@@ -35,12 +35,12 @@ module _ {G N S B K E R : Type 0} (l : Language G N S B K E R) (exact : IsExact 
   has_same [] m = refl
   has_same (k ∷ ks) m = ap (λ b. l.same k.0 m || b) (has_same ks m)
 
-  listed_in : (ks : List (N × S)) (m : N) → has l (map (λ p. p.0) ks) m ≡ true → list_any (λ p. l.same m p.0) ks ≡ true
+  pub listed_in : (ks : List (N × S)) (m : N) → has l (map (λ p. p.0) ks) m ≡ true → list_any (λ p. l.same m p.0) ks ≡ true
   listed_in ks m e =
       let s = any_in (λ (p : N × S). l.same p.0 m) ks (sym (has_same ks m) ∙ e) in
       any_of (λ (p : N × S). l.same m p.0) ks s.0 s.1 (turned s.0.0 m s.2)
 
-  listed_of : (ks : List (N × S)) (m : N) → list_any (λ p. l.same m p.0) ks ≡ true → has l (map (λ p. p.0) ks) m ≡ true
+  pub listed_of : (ks : List (N × S)) (m : N) → list_any (λ p. l.same m p.0) ks ≡ true → has l (map (λ p. p.0) ks) m ≡ true
   listed_of ks m e =
       let s = any_in (λ (p : N × S). l.same m p.0) ks e in
       has_same ks m ∙ any_of (λ (p : N × S). l.same p.0 m) ks s.0 s.1 (turned m s.0.0 s.2)

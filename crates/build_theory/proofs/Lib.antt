@@ -12,3 +12,4 @@ pub mod Sweep
 pub mod Example
 pub mod Made
 pub mod Reading
+pub mod Cycles

@@ -27,6 +27,18 @@ module _ {G N S B K E R : Type 0} (l : Language G N S B K E R) where
     pub once : AllByRecursion (λ p. l.same q.0 p.0 ≡ false) before
     pub behind : (n : N) → is_need l t q.0 n ≡ true → list_any (λ p. l.same n p.0) before ≡ true
 
+  -- a need of a need is a need
+  abbrev pub AreTransitive : Tree G N S → Type 0
+  AreTransitive t = (a b c : N) → l.needs t a b ≡ true → l.needs t b c ≡ true → l.needs t a c ≡ true
+
+  -- there is no cycle before a node: neither it nor a node that it needs needs itself
+  abbrev pub HasNoCycleBefore : Tree G N S → N → Type 0
+  HasNoCycleBefore t a = (l.needs t a a ≡ false) × ((b : N) → is_need l t a b ≡ true → l.needs t b b ≡ false)
+
+  -- The order has a node before which there is no cycle behind all that it needs.
+  abbrev pub NeedsStandBefore : Type 0
+  NeedsStandBefore = IsExact l → (t : Tree G N S) → AreDistinct l t.sources → AreTransitive t → (q : N × S) → IsIn q t.sources → HasNoCycleBefore t q.0 → HasPlace t q
+
   abbrev pub without : N → List (N × ℕ) → List (N × ℕ)
   without m [] = []
   without m (c ∷ cs) = if l.same m c.0 then without m cs else c ∷ without m cs

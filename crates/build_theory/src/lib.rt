@@ -4,7 +4,7 @@
 ghost use Rattle.std.specs.Prelude.{◌≡◌, ℕ, List, [], ◌∷◌, map};
 ghost use Rattle.build_theory.specs.Build.{Behind, Blocked, Checked, Current, Failed, Judged, Language, Sound, Tree, clean, incremental, order, sorted, store_after};
 ghost use Rattle.build_theory.specs.Example.{Interface, Loop, NewSource, NothingKept, Problem, Reason, Source, adding, events, face_of_4, face_of_5, five, last, of_behind, of_loop, of_sound, old_face_of_5};
-ghost use Rattle.build_theory.specs.Machine.{Event, EverySweepAgrees, NeedsComeFirst, Run, State, Step, SweepAgrees, SweepAgreesDownward, opening};
+ghost use Rattle.build_theory.specs.Machine.{Event, EverySweepAgrees, NeedsComeFirst, NeedsStandBefore, Run, State, Step, SweepAgrees, SweepAgreesDownward, opening};
 ghost use Rattle.build_theory.specs.Laws.{EmptyStoreIsClean, HistoriesAreClean, IsExact, IsOrdered, LawOfReading, OrderIsByNode, OrderIsWhole, OrderOfFilesIsNothing, StoresChangeNothing, StoresStayHonest};
 
 /// A build over an empty store has the outcomes of the clean build.
@@ -25,6 +25,11 @@ pub fn order_is_whole<G, N, S, B, K, E, R>()
 /// Where each node needs smaller ones alone, the order is that of the nodes.
 pub fn order_is_by_node<G, N, S, B, K, E, R>()
     ensures { (l : Language G N S B K E R) → OrderIsByNode l }
+{}
+
+/// Where a need of a need is a need, the order has each node before which there is no cycle behind all that it needs.
+pub fn needs_stand_before<G, N, S, B, K, E, R>()
+    ensures { (l : Language G N S B K E R) → NeedsStandBefore l }
 {}
 
 /// Under the law of reading, over an honest store, an incremental build has the outcomes of the clean build.
