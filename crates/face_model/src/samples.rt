@@ -9,26 +9,26 @@ use std::alloc::AllocGlobal;
 use std::process::Abort;
 
 /// That a value is the same as its copy, and not the same as the changed one.
-pub fn check_plain<T: Plain>(rt: &(impl Abort + AllocGlobal), value: T, changed: T) {
+pub(crate) fn check_plain<T: Plain>(rt: &(impl Abort + AllocGlobal), value: T, changed: T) {
     let copy = value.copy(rt.alloc()).expect(rt, "memory");
     assert!(rt; value.same(&copy), "the same as its copy");
     assert!(rt; copy.same(&value), "its copy is the same");
     assert!(rt; !value.same(&changed), "not the same when changed");
 }
 
-pub fn text(rt: &(impl Abort + AllocGlobal), bytes: &[u8]) -> Text {
+pub(crate) fn text(rt: &(impl Abort + AllocGlobal), bytes: &[u8]) -> Text {
     Text::from_slice(rt.alloc(), bytes).expect(rt, "memory")
 }
 
 /// The list of one item.
-pub fn one<T: Drop>(rt: &(impl Abort + AllocGlobal), item: T) -> List<T> {
+pub(crate) fn one<T: Drop>(rt: &(impl Abort + AllocGlobal), item: T) -> List<T> {
     let mut list = List::new(rt.alloc());
     list.push(item).expect(rt, "memory");
     list
 }
 
 /// A name of the module `Data.Bag` in the unit `bags`.
-pub fn name(rt: &(impl Abort + AllocGlobal), space: Space, occ: &[u8]) -> Name {
+pub(crate) fn name(rt: &(impl Abort + AllocGlobal), space: Space, occ: &[u8]) -> Name {
     let unit = Unit {
         text: text(rt, b"bags"),
     };
@@ -42,7 +42,7 @@ pub fn name(rt: &(impl Abort + AllocGlobal), space: Space, occ: &[u8]) -> Name {
     Name { unit, module, occ }
 }
 
-pub fn node(rt: &(impl Abort + AllocGlobal), module: &[u8]) -> Node {
+pub(crate) fn node(rt: &(impl Abort + AllocGlobal), module: &[u8]) -> Node {
     let module = ModName {
         text: text(rt, module),
     };
@@ -53,7 +53,7 @@ pub fn node(rt: &(impl Abort + AllocGlobal), module: &[u8]) -> Node {
 }
 
 /// `CLASS t0`.
-pub fn constraint(rt: &(impl Abort + AllocGlobal), class: &[u8]) -> Constraint {
+pub(crate) fn constraint(rt: &(impl Abort + AllocGlobal), class: &[u8]) -> Constraint {
     let class = name(rt, Space::Ty, class);
     Constraint {
         class,
@@ -62,7 +62,7 @@ pub fn constraint(rt: &(impl Abort + AllocGlobal), class: &[u8]) -> Constraint {
 }
 
 /// `CLASS t0 => t0`, for any `t0`.
-pub fn scheme(rt: &(impl Abort + AllocGlobal), class: &[u8]) -> Scheme {
+pub(crate) fn scheme(rt: &(impl Abort + AllocGlobal), class: &[u8]) -> Scheme {
     let context = one(rt, constraint(rt, class));
     Scheme {
         vars: 1,
