@@ -230,8 +230,9 @@ fn take_lexeme(
     behind(alloc, token, role, state)
 }
 
-/// A token: a pragma as it stands, and a lexeme with the signs before it.
-fn take_token(
+/// Puts a token behind `out`: a pragma as it stands, and a lexeme with the signs before it. For who reads the lexemes
+/// of a source one after another: the state begins with that of `start`, and `finish` puts the signs at the end.
+pub fn take_token(
     alloc: Global,
     token: &Token,
     state: &mut State,
@@ -245,8 +246,8 @@ fn take_token(
     }
 }
 
-/// The signs at the end of the input.
-fn finish(alloc: Global, state: State, out: &mut List<Token>) -> Result<(), NoMemory>
+/// Puts the signs at the end of the input behind `out`.
+pub fn finish(alloc: Global, state: State, out: &mut List<Token>) -> Result<(), NoMemory>
     ensures { OnOk result (out.new ≡ out.old ++ map (put_token state.end) (at_end state).puts) }
 {
     let State {
