@@ -3,6 +3,3 @@
 
 mod lines;
 pub mod scope;
-mod table;
-#[cfg(test)]
-mod tests;

