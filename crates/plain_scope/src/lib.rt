@@ -3,3 +3,4 @@
 
 mod lines;
 pub mod scope;
+mod table;

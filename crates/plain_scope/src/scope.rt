@@ -1,8 +1,11 @@
 //! What a module declares and what its names refer to.
 ghost use Rattle.std.specs.Prelude.{◌≡◌, ◌<◌, IfOk, length};
 ghost use Rattle.std.specs.List.{AllByRecursion};
+ghost use Rattle.plain_scope.specs.Ordered.{DiagnosticsAreOrdered};
 ghost use Rattle.plain_scope.specs.Scope.{check_of, contents_at};
 
+use crate::lines::check_datas;
+use crate::table::types_in_scope;
 use mk_base::diag::Diag;
 use mk_base::list::List;
 use mk_base::memory::NoMemory;
@@ -19,7 +22,7 @@ pub struct DataDecl {
     pub fields: List<Name>,
 }
 
-/// What a sound module offers: its name, and its data types in the order of its lines.
+/// What a sound module offers: its name, and its data types in the order of its source.
 #[derive(Debug, Drop)]
 pub struct Content {
     pub module: Text,
@@ -45,5 +48,17 @@ pub fn check(
     requires within { AllByRecursion (λ i. i < length contents.now) imports.now }
     ensures { IfOk result (λ c. c ≡ check_of unit.now name.now written.now (contents_at contents.now imports.now)) }
 {
-    Err(NoMemory)
+    let types = types_in_scope(alloc, unit, name, written, contents, imports)?;
+    let mut diags = List::new(alloc);
+    let datas = check_datas(alloc, &types, written.datas.as_slice(), &mut diags)?;
+    if !diags.is_empty() {
+        return Ok(Checked::Wrong(diags));
+    }
+    let module = Text::from_slice(alloc, name)?;
+    Ok(Checked::Sound(Content { module, datas }))
 }
+
+/// Where the names of a module stand in the order of their places, so do its diagnostics, no two at one place.
+pub fn diagnostics_are_ordered()
+    ensures { DiagnosticsAreOrdered }
+{}
