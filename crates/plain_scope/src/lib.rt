@@ -4,3 +4,5 @@
 mod lines;
 pub mod scope;
 mod table;
+#[cfg(test)]
+mod tests;
