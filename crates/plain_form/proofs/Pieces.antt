@@ -3,7 +3,7 @@ use Rattle.std.proofs.Common.{◌≡◌, ℕ, ◌+◌, ◌-◌, ◌≤◌, Bool,
 use Rattle.std.specs.List.{position, position_or_len, slice_split, onto_first}
 use Rattle.std.proofs.lemmas.List.{take_all}
 use Rattle.std.proofs.lemmas.List.Splits.{slice_split_first}
-use Rattle.plain_form.specs.Words.{pieces, onto, lines, without_empty_end}
+use Rattle.plain_form.specs.Words.{pieces, onto}
 
 onto-is : (b : ℕ) (ps : List (List ℕ)) → onto b ps ≡ onto_first b ps
 onto-is b [] = refl
@@ -57,12 +57,3 @@ some_piece at [] = ([], [], refl)
 some_piece at (b ∷ bs) =
     elim (nat_eq b at) as (λ t. (p : List ℕ) × (qs : List (List ℕ)) × (cond t ([] ∷ pieces at bs) (onto b (pieces at bs)) ≡ p ∷ qs))
     [ true ↦ ([], pieces at bs, refl) | false ↦ onto-cons b (pieces at bs) ]
-
-without_end-cons : (line p : List ℕ) (ps : List (List ℕ)) → without_empty_end (line ∷ p ∷ ps) ≡ line ∷ without_empty_end (p ∷ ps)
-without_end-cons [] p ps = refl
-without_end-cons (b ∷ bs) p ps = refl
-
-pub lines_more : (text line rest : List ℕ) → pieces 10 text ≡ line ∷ pieces 10 rest → lines text ≡ line ∷ lines rest
-lines_more text line rest h =
-    let s : (p : List ℕ) × (qs : List (List ℕ)) × (pieces 10 rest ≡ p ∷ qs) = some_piece 10 rest in
-    ap without_empty_end (h ∙ ap (λ ps. line ∷ ps) s.2) ∙ without_end-cons line s.0 s.1 ∙ ap (λ ps. line ∷ without_empty_end ps) (sym s.2)

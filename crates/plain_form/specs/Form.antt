@@ -1,122 +1,242 @@
--- The form of the sources that are built: a `module` line, `import` lines and `data` lines.
-use Rattle.std.specs.Prelude.{◌≡◌, ◌⊎◌, ◌↔◌, ℕ, ◌+◌, ◌-◌, ◌≤◌, Bool, true, ◌&&◌, not, List, [], ◌∷◌, ◌++◌, map, length, sum_by, take, Some, None, codes, if◌then◌else◌}
+-- The form of the sources that are built, over tokens: a module's head, its imports and its data types.
+use Rattle.std.specs.Prelude.{◌≡◌, ◌⊎◌, ◌↔◌, ℕ, suc, ◌<◌, Bool, true, false, ◌&&◌, not, List, [], ◌∷◌, ◌++◌, map, length, take, slice_get, Some, None, codes, if◌then◌else◌}
 use Rattle.std.specs.declared.option.Option.{Option}
-use Rattle.std.specs.List.{list_all, flat_map, AllByRecursion}
+use Rattle.std.specs.List.{flat_map, AllByRecursion}
 use Rattle.std.specs.Ordering.{is_lt}
 use Rattle.mk_base.specs.Order.{text_cmp}
-use Rattle.plain_form.specs.declared.form.DataLine.{DataLine}
+use Rattle.mk_base.specs.declared.place.Pos.{Pos}
+use Rattle.hs_syntax.specs.declared.token.Token.{Token}
+use Rattle.hs_syntax.specs.declared.token.PutSign.{PutSign}
+use Rattle.hs_syntax.specs.declared.token.PutSign.TheVariants as sign
+use Rattle.plain_form.specs.declared.form.Word.{Word}
+use Rattle.plain_form.specs.declared.form.DataItem.{DataItem}
 use Rattle.plain_form.specs.declared.form.Written.{Written}
 use Rattle.plain_form.specs.declared.form.Reading.{Reading}
 use Rattle.plain_form.specs.declared.form.Reading.TheVariants.{Form, Leaves}
-use Rattle.plain_form.specs.Words.{is_con, same_text, pieces, lines}
-
-pub data Line : Type 0 where
-  OfModule : List ℕ → Line
-  OfImport : List ℕ → Line
-  OfData : DataLine → Line
-
--- the spelling of a line, without its line feed
-abbrev pub line_text : Line → List ℕ
-line_text (OfModule x) = codes "module " ++ (x ++ codes " where")
-line_text (OfImport y) = codes "import " ++ y
-line_text (OfData d) = codes "data " ++ (d.ty ++ (codes " = " ++ (d.con ++ flat_map (λ f. 32 ∷ f) d.fields)))
-
--- a line's words begin with a capital and are letters and digits
-abbrev pub IsLine : Line → Type 0
-IsLine (OfModule x) = is_con x ≡ true
-IsLine (OfImport y) = is_con y ≡ true
-IsLine (OfData d) = (is_con d.ty ≡ true) × (is_con d.con ≡ true) × (list_all is_con d.fields ≡ true)
-
-abbrev pub line_of_words : List (List ℕ) → Option Line
-line_of_words [] = None
-line_of_words (k ∷ []) = None
-line_of_words (k ∷ y ∷ []) = if same_text k (codes "import") && is_con y then Some (OfImport y) else None
-line_of_words (k ∷ x ∷ w ∷ []) = if same_text k (codes "module") && (same_text w (codes "where") && is_con x) then Some (OfModule x) else None
-line_of_words (k ∷ t ∷ e ∷ c ∷ fs) =
-    if same_text k (codes "data") && (same_text e (codes "=") && (is_con t && (is_con c && list_all is_con fs)))
-    then Some (OfData (record { ty = t; con = c; fields = fs })) else None
-
--- the line that a text spells
-abbrev pub line_of : List ℕ → Option Line
-line_of text = line_of_words (pieces 32 text)
+use Rattle.plain_form.specs.declared.state.Stage.{Stage}
+use Rattle.plain_form.specs.declared.state.Stage.TheVariants as stage
+use Rattle.plain_form.specs.declared.state.State.{State}
+use Rattle.plain_form.specs.Words.{is_con, same_text}
 
 -- an import of a lesser module other than Prim
 abbrev pub is_import : List ℕ → List ℕ → Bool
 is_import x y = not (same_text y (codes "Prim")) && is_lt (text_cmp y x)
 
-abbrev pub with_data : DataLine → Reading → Reading
-with_data d (Form w) = Form (record { imports = w.imports; datas = d ∷ w.datas })
-with_data d (Leaves k) = Leaves k
+-- the place of a source's first character
+abbrev pub first_place : Pos
+first_place = record { line = 1; col = 1 }
 
-abbrev pub with_import : List ℕ → Reading → Reading
-with_import y (Form w) = Form (record { imports = y ∷ w.imports; datas = w.datas })
-with_import y (Leaves k) = Leaves k
+-- whether it is a lexeme of this text
+abbrev pub is_lexeme : List ℕ → Option PutSign → List ℕ → Bool
+is_lexeme text None written = same_text written text
+is_lexeme text (Some s) written = false
 
-abbrev pub data_next : ℕ → Option Line → Reading → Reading
-data_next k (Some (OfData d)) rest = with_data d rest
-data_next k _ rest = Leaves k
+abbrev pub is_text : List ℕ → Token → Bool
+is_text text t = is_lexeme text t.sign t.text
 
--- `data` lines, the first of them line k
-abbrev pub read_datas : ℕ → List (List ℕ) → Reading
-read_datas k [] = Form (record { imports = []; datas = [] })
-read_datas k (l ∷ ls) = data_next k (line_of l) (read_datas (k + 1) ls)
+-- a name: a word of ASCII letters and digits that begins with a capital
+abbrev pub is_word : Option PutSign → List ℕ → Bool
+is_word None written = is_con written
+is_word (Some s) written = false
 
-abbrev pub import_next : List ℕ → Option Line → Reading → Reading → Reading
-import_next x (Some (OfImport y)) rest none = if is_import x y then with_import y rest else none
-import_next x _ rest none = none
+abbrev pub is_name : Token → Bool
+is_name t = is_word t.sign t.text
 
--- `import` lines and then `data` lines, the first of them line k
-abbrev pub read_imports : List ℕ → ℕ → List (List ℕ) → Reading
-read_imports x k [] = Form (record { imports = []; datas = [] })
-read_imports x k (l ∷ ls) = import_next x (line_of l) (read_imports x (k + 1) ls) (read_datas k (l ∷ ls))
+-- a brace or a semicolon: put by layout, or written
+abbrev pub opened : Option PutSign → List ℕ → Option Bool
+opened (Some sign.Open) written = Some true
+opened (Some s) written = None
+opened None written = if same_text written (codes "{") then Some false else None
 
-abbrev pub module_next : List ℕ → Option Line → Reading → Reading
-module_next x (Some (OfModule y)) rest = if same_text y x then rest else Leaves 1
-module_next x _ rest = Leaves 1
+abbrev pub is_closing : Bool → Option PutSign → List ℕ → Bool
+is_closing true (Some sign.Close) written = true
+is_closing false None written = same_text written (codes "}")
+is_closing put s written = false
 
--- the source of module x by its lines, or the first line that leaves the form, counted from 1
-abbrev pub read_lines : List ℕ → List (List ℕ) → Reading
-read_lines x [] = Leaves 1
-read_lines x (l ∷ ls) = module_next x (line_of l) (read_imports x 2 ls)
+abbrev pub is_next : Option PutSign → List ℕ → Bool
+is_next (Some sign.Semicolon) written = true
+is_next (Some s) written = false
+is_next None written = same_text written (codes ";")
 
-abbrev pub read_source : List ℕ → List ℕ → Reading
-read_source x source = read_lines x (lines source)
+abbrev pub word_of : Token → Word
+word_of t = record { text = t.text; at = t.at }
 
--- what fits: as many lines, as long ones and as many fields as a source of 1 MiB has
-abbrev pub is_small : Written → Type 0
-is_small w = (length w.imports + length w.datas ≤ 1048576) × AllByRecursion (λ (d : DataLine). length (line_text (OfData d)) ≤ 1048576) w.datas
-    × (sum_by (λ (d : DataLine). length d.fields) w.datas ≤ 1048576)
+-- The state of a reading: what comes next, whether layout put the opening brace, and what was read.
 
-abbrev pub IsSmall : Reading → Type 0
-IsSmall (Form w) = is_small w
-IsSmall (Leaves k) = k ≤ 1048577
+abbrev pub at_stage : State → Stage → State
+at_stage s g = record { stage = g; put = s.put; written = s.written }
 
--- The form by its spelling: the module's line, its imports' and its data types' lines.
-abbrev pub IsForm : List ℕ → List (List ℕ) → Written → Type 0
-IsForm x ls w = (is_con x ≡ true) × (list_all (λ y. is_con y && is_import x y) w.imports ≡ true) × AllByRecursion (λ d. IsLine (OfData d)) w.datas
-    × (ls ≡ line_text (OfModule x) ∷ (map (λ y. line_text (OfImport y)) w.imports ++ map (λ d. line_text (OfData d)) w.datas))
+abbrev pub with_import : State → Word → State
+with_import s y = record { stage = stage.Imported; put = s.put; written = record { imports = s.written.imports ++ y ∷ []; datas = s.written.datas } }
 
--- Line k is the first with which the lines leave the form: those before it are of the form, or there are none, and those up to it aren't.
-abbrev pub IsFirstBad : List ℕ → List (List ℕ) → ℕ → Type 0
-IsFirstBad x ls k = (1 ≤ k) × ((ls ≡ []) ⊎ (k ≤ length ls)) × ((k ≡ 1) ⊎ ((w : Written) × IsForm x (take (k - 1) ls) w)) × ((w : Written) → IsForm x (take k ls) w → ⊥)
+abbrev pub with_data : State → Stage → DataItem → State
+with_data s g d = record { stage = g; put = s.put; written = record { imports = s.written.imports; datas = s.written.datas ++ d ∷ [] } }
 
--- A text is a line exactly where it is the line's spelling.
-abbrev pub LinesAreSpelled : Type 0
-LinesAreSpelled = (text : List ℕ) (l : Line) → (line_of text ≡ Some l) ↔ (IsLine l × (text ≡ line_text l))
+abbrev pub with_field : DataItem → Word → DataItem
+with_field d f = record { ty = d.ty; con = d.con; fields = d.fields ++ f ∷ [] }
 
--- Lines are read as a module exactly where they are its spelling, and leave the form exactly at the first bad line.
+abbrev pub on : Bool → State → Option State
+on true s = Some s
+on false s = None
+
+abbrev pub at_open : State → Option Bool → Option State
+at_open s (Some put) = Some (record { stage = stage.Body; put = put; written = s.written })
+at_open s None = None
+
+-- `data`, where an item may begin
+abbrev pub at_data : State → Token → Option State
+at_data s t = on (is_text (codes "data") t) (at_stage s stage.DataType)
+
+-- `import` or `data`
+abbrev pub at_item : State → Token → Option State
+at_item s t = if is_text (codes "import") t then Some (at_stage s stage.Import) else at_data s t
+
+abbrev pub is_close : State → Token → Bool
+is_close s t = is_closing s.put t.sign t.text
+
+-- behind a whole item: a semicolon and then another item, or the end
+abbrev pub behind_item : State → Stage → Token → Option State
+behind_item s next t = if is_next t.sign t.text then Some (at_stage s next) else on (is_close s t) (at_stage s stage.End)
+
+abbrev pub behind_data : State → DataItem → Token → Option State
+behind_data s d t = if is_next t.sign t.text then Some (with_data s stage.NextData d) else on (is_close s t) (with_data s stage.End d)
+
+-- the state behind a token; none where it leaves the form
+abbrev pub step_at : List ℕ → State → Stage → Token → Option State
+step_at x s stage.Start t = on (is_text (codes "module") t) (at_stage s stage.Name)
+step_at x s stage.Name t = on (is_text x t) (at_stage s stage.Where)
+step_at x s stage.Where t = on (is_text (codes "where") t) (at_stage s stage.Open)
+step_at x s stage.Open t = at_open s (opened t.sign t.text)
+step_at x s stage.Body t = if is_close s t then Some (at_stage s stage.End) else at_item s t
+step_at x s stage.Import t = on (is_name t && is_import x t.text) (with_import s (word_of t))
+step_at x s stage.Imported t = behind_item s stage.NextItem t
+step_at x s stage.NextItem t = at_item s t
+step_at x s stage.NextData t = at_data s t
+step_at x s stage.DataType t = on (is_name t) (at_stage s (stage.DataEquals (word_of t)))
+step_at x s (stage.DataEquals ty) t = on (is_text (codes "=") t) (at_stage s (stage.DataCon ty))
+step_at x s (stage.DataCon ty) t = on (is_name t) (at_stage s (stage.Fields (record { ty = ty; con = word_of t; fields = [] })))
+step_at x s (stage.Fields d) t = if is_name t then Some (at_stage s (stage.Fields (with_field d (word_of t)))) else behind_data s d t
+step_at x s stage.End t = None
+
+abbrev pub step : List ℕ → State → Token → Option State
+step x s t = step_at x s s.stage t
+
+-- at the end of the tokens, the last of which stands at this place
+abbrev pub ended : State → Stage → Pos → Reading
+ended s stage.End last = Form s.written
+ended s g last = Leaves last
+
+abbrev pub go : Token → Option State → (State → Reading) → Reading
+go t (Some s) on = on s
+go t None on = Leaves t.at
+
+abbrev pub read_from : List ℕ → State → Pos → List Token → Reading
+read_from x s last [] = ended s s.stage last
+read_from x s last (t ∷ ts) = go t (step x s t) (λ n. read_from x n t.at ts)
+
+abbrev pub start : State
+start = record { stage = stage.Start; put = false; written = record { imports = []; datas = [] } }
+
+-- The braced tokens of module x's source: a module of the form, or the place of the first of them that leaves the form; where they end too early, the last one's.
+abbrev pub read_form : List ℕ → List Token → Reading
+read_form x ts = read_from x start first_place ts
+
+-- The form by its spelling.
+
+-- what a token is to be
+pub data Mark : Type 0 where
+  Fixed : List ℕ → Mark
+  Placed : Word → Mark
+  Open : Bool → Mark
+  Next : Mark
+  Close : Bool → Mark
+
+abbrev pub Fits : Mark → Token → Type 0
+Fits (Fixed text) t = (t.sign ≡ None) × (t.text ≡ text)
+Fits (Placed w) t = (t.sign ≡ None) × (word_of t ≡ w)
+Fits (Open true) t = t.sign ≡ Some sign.Open
+Fits (Open false) t = (t.sign ≡ None) × (t.text ≡ codes "{")
+Fits Next t = (t.sign ≡ Some sign.Semicolon) ⊎ ((t.sign ≡ None) × (t.text ≡ codes ";"))
+Fits (Close true) t = t.sign ≡ Some sign.Close
+Fits (Close false) t = (t.sign ≡ None) × (t.text ≡ codes "}")
+
+abbrev pub AllFit : List Mark → List Token → Type 0
+AllFit [] [] = Unit {0}
+AllFit (m ∷ ms) (t ∷ ts) = Fits m t × AllFit ms ts
+AllFit _ _ = ⊥
+
+abbrev pub import_marks : Word → List Mark
+import_marks y = Fixed (codes "import") ∷ Placed y ∷ []
+
+abbrev pub data_marks : DataItem → List Mark
+data_marks d = Fixed (codes "data") ∷ Placed d.ty ∷ Fixed (codes "=") ∷ Placed d.con ∷ map Placed d.fields
+
+-- the items with semicolons between them
+abbrev pub parted : List (List Mark) → List Mark
+parted [] = []
+parted (i ∷ []) = i
+parted (i ∷ is) = i ++ Next ∷ parted is
+
+abbrev pub items : Written → List (List Mark)
+items w = map import_marks w.imports ++ map data_marks w.datas
+
+-- `module X where {`, the items and `}`; a brace that layout put is closed by one that layout put
+abbrev pub marks : List ℕ → Bool → Written → List Mark
+marks x put w = Fixed (codes "module") ∷ Fixed x ∷ Fixed (codes "where") ∷ Open put ∷ (parted (items w) ++ Close put ∷ [])
+
+abbrev pub IsImport : List ℕ → Word → Type 0
+IsImport x y = (is_con y.text ≡ true) × (is_import x y.text ≡ true)
+
+abbrev pub IsData : DataItem → Type 0
+IsData d = (is_con d.ty.text ≡ true) × (is_con d.con.text ≡ true) × AllByRecursion (λ (f : Word). is_con f.text ≡ true) d.fields
+
+abbrev pub IsForm : List ℕ → List Token → Written → Type 0
+IsForm x ts w = AllByRecursion (IsImport x) w.imports × AllByRecursion IsData w.datas × ((put : Bool) × AllFit (marks x put w) ts)
+
+-- these tokens begin some module of the form
+abbrev pub IsFront : List ℕ → List Token → Type 0
+IsFront x ts = (rest : List Token) × (w : Written) × IsForm x (ts ++ rest) w
+
+abbrev pub last_place : Pos → List Token → Pos
+last_place p [] = p
+last_place p (t ∷ ts) = last_place t.at ts
+
+-- The place is that of the first token with which the tokens leave the form, or, where they end too early, that of the last.
+abbrev pub IsFirstBad : List ℕ → List Token → Pos → Type 0
+IsFirstBad x ts at = ((n : ℕ) × (t : Token) × (slice_get ts n ≡ Some t) × IsFront x (take n ts) × (IsFront x (take (suc n) ts) → ⊥) × (at ≡ t.at))
+    ⊎ (IsFront x ts × ((w : Written) → IsForm x ts w → ⊥) × (at ≡ last_place first_place ts))
+
+-- Tokens are read as a module exactly where they spell it, and leave the form exactly at the first bad one.
 abbrev pub FormIsSpelled : Type 0
-FormIsSpelled = (x : List ℕ) (ls : List (List ℕ)) → is_con x ≡ true
-    → ((w : Written) → (read_lines x ls ≡ Form w) ↔ IsForm x ls w) × ((k : ℕ) → (read_lines x ls ≡ Leaves k) ↔ IsFirstBad x ls k)
+FormIsSpelled = (x : List ℕ) (ts : List Token) → is_con x ≡ true
+    → ((w : Written) → (read_form x ts ≡ Form w) ↔ IsForm x ts w) × ((at : Pos) → (read_form x ts ≡ Leaves at) ↔ IsFirstBad x ts at)
 
--- the lines, each ended by a line feed
-abbrev pub ended : List (List ℕ) → List ℕ
-ended ls = flat_map (λ l. l ++ 10 ∷ []) ls
+-- The places of words.
 
-abbrev pub HasNoFeed : List ℕ → Type 0
-HasNoFeed l = AllByRecursion (λ b. b ≡ 10 → ⊥) l
+-- on an earlier line, or further left on the same line
+abbrev pub IsBefore : Pos → Pos → Type 0
+IsBefore p q = (p.line < q.line) ⊎ ((p.line ≡ q.line) × (p.col < q.col))
 
--- A source is its lines, each ended by a line feed, which the last may lack where it isn't empty; and these are its only lines.
-abbrev pub SourcesAreTheirLines : Type 0
-SourcesAreTheirLines = (source : List ℕ) (ls : List (List ℕ)) →
-    (lines source ≡ ls) ↔ (AllByRecursion HasNoFeed ls × ((source ≡ ended ls) ⊎ ((front : List (List ℕ)) × (last : List ℕ) × (ls ≡ front ++ last ∷ []) × (last ≡ [] → ⊥) × (source ≡ ended front ++ last))))
+-- each place stands before all that are behind it
+abbrev pub AreRising : List Pos → Type 0
+AreRising [] = Unit {0}
+AreRising (p ∷ ps) = AllByRecursion (IsBefore p) ps × AreRising ps
+
+-- the names in a module's imports and data types, in their order
+abbrev pub words : Written → List Word
+words w = w.imports ++ flat_map (λ (d : DataItem). d.ty ∷ d.con ∷ d.fields) w.datas
+
+abbrev pub places : List Word → List Pos
+places ws = map (λ (w : Word). w.at) ws
+
+abbrev pub written_at : Option PutSign → Pos → List Pos
+written_at None at = at ∷ []
+written_at (Some s) at = []
+
+-- the places of the lexemes among the tokens
+abbrev pub lexeme_places : List Token → List Pos
+lexeme_places ts = flat_map (λ (t : Token). written_at t.sign t.at) ts
+
+-- Where the lexemes rise, so do the names of the module.
+abbrev pub WordsRise : Type 0
+WordsRise = (x : List ℕ) (ts : List Token) (w : Written) → read_form x ts ≡ Form w → AreRising (lexeme_places ts) → AreRising (places (words w))

@@ -25,12 +25,3 @@ onto b (p ∷ ps) = (b ∷ p) ∷ ps
 abbrev pub pieces : ℕ → List ℕ → List (List ℕ)
 pieces at [] = [] ∷ []
 pieces at (b ∷ bs) = if nat_eq b at then [] ∷ pieces at bs else onto b (pieces at bs)
-
-abbrev pub without_empty_end : List (List ℕ) → List (List ℕ)
-without_empty_end [] = []
-without_empty_end ([] ∷ []) = []
-without_empty_end (p ∷ ps) = p ∷ without_empty_end ps
-
--- the lines of a source: each ends with a line feed, which the last one may lack
-abbrev pub lines : List ℕ → List (List ℕ)
-lines source = without_empty_end (pieces 10 source)

@@ -1,6 +1,6 @@
-//! Cutting a text at a byte, and a source at its line feeds.
-ghost use Rattle.std.specs.Prelude.{◌≡◌, ◌∷◌, [], ◌<◌, ◌≤◌, MatchOption, IfSome, length, nat_eq, position};
-ghost use Rattle.plain_form.specs.Words.{lines, pieces};
+//! Cutting a text at a byte.
+ghost use Rattle.std.specs.Prelude.{◌≡◌, ◌∷◌, [], ◌<◌, MatchOption, IfSome, length, nat_eq, position};
+ghost use Rattle.plain_form.specs.Words.{pieces};
 
 /// The piece before the first byte `at`, and what stands behind that byte, if there is one.
 pub fn cut(text: &[u8], at: u8) -> (&[u8], Option<&[u8]>)
@@ -19,19 +19,4 @@ fn place_of(text: &[u8], at: u8) -> Option<usize>
     ensures { result ≡ position (λ b. nat_eq b at) text.now }
 {
     text.iter().position(|b| *b == at)
-}
-
-/// The first line and the lines behind it; None exactly where the text is empty.
-pub fn next_line(text: &[u8]) -> Option<(&[u8], &[u8])>
-    ensures lines { MatchOption result (lines text.now ≡ []) (λ r. lines text.now ≡ r.0.now ∷ lines r.1.now) }
-    ensures shorter { IfSome result (λ r. length r.1.now < length text.now) }
-{
-    if text.is_empty() {
-        return None;
-    }
-    let (line, rest) = cut(text, b'\n');
-    match rest {
-        Some(rest) => Some((line, rest)),
-        None => Some((line, &text[text.len()..])),
-    }
 }

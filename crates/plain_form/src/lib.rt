@@ -3,8 +3,6 @@
 
 mod cut;
 pub mod form;
-mod line;
 pub mod paths;
-#[cfg(test)]
-mod tests;
+mod state;
 mod word;

@@ -1,89 +1,82 @@
 -- The order of diagnostics by their places.
-use Rattle.std.proofs.Common.{◌≡◌, refl, ℕ, ◌+◌, ◌<◌, ◌≤◌, Bool, true, false, cond, List, [], ◌∷◌, ◌++◌, length, inl, inr, map, arith, codes}
-use Rattle.std.specs.List.{AllByRecursion, list_any}
+use Rattle.std.proofs.Common.{◌≡◌, refl, sym, subst, ℕ, Bool, true, false, cond, ◌⊎◌, inl, inr, List, [], ◌∷◌, ◌++◌, map, codes}
+use Rattle.std.specs.List.{AllByRecursion, list_any, flat_map}
 use Rattle.mk_base.specs.declared.diag.Diag.{Diag}
-use Rattle.plain_form.specs.declared.form.DataLine.{DataLine}
+use Rattle.mk_base.specs.declared.place.Pos.{Pos}
+use Rattle.plain_form.specs.declared.form.Word.{Word}
+use Rattle.plain_form.specs.declared.form.DataItem.{DataItem}
+use Rattle.plain_form.specs.declared.form.Written.{Written}
+use Rattle.plain_form.specs.Form.{IsBefore, AreRising, places, words}
 use Rattle.plain_form.specs.Words.{same_text}
-use Rattle.plain_scope.specs.Ordered.{IsBefore, AreOrdered}
+use Rattle.plain_scope.specs.Ordered.{AreOrdered}
 use Rattle.plain_scope.specs.Scope.{Pair, Use, Missing, Ambiguous, Found, use_at, diag_at, use_diags, field_diags, twice_diags, data_diags, datas_diags}
 
--- on the line, at the column low or right of it
-abbrev OnLine : ℕ → ℕ → Diag → Type 0
-OnLine line low d = (d.at.line ≡ line) × (low ≤ d.at.col)
+-- the diagnostics stand at some of the words, in their order
+abbrev pub AreAmong : List Diag → List Word → Type 0
+AreAmong [] ws = Unit {0}
+AreAmong (d ∷ ds) [] = ⊥
+AreAmong (d ∷ ds) (w ∷ ws) = ((d.at ≡ w.at) × AreAmong ds ws) ⊎ AreAmong (d ∷ ds) ws
 
--- on the line or a later one
-abbrev FromLine : ℕ → Diag → Type 0
-FromLine line d = line ≤ d.at.line
+among_more : (ds : List Diag) (w : Word) (ws : List Word) → AreAmong ds ws → AreAmong ds (w ∷ ws)
+among_more [] w ws a = tt
+among_more (d ∷ ds) w ws a = inr a
 
-all_append : (P : Diag → Type 0) (xs ys : List Diag) → AllByRecursion P xs → AllByRecursion P ys → AllByRecursion P (xs ++ ys)
-all_append P [] ys a b = b
-all_append P (x ∷ xs) ys a b = (a.0, all_append P xs ys a.1 b)
+among_behind : (ds : List Diag) (vs ws : List Word) → AreAmong ds ws → AreAmong ds (vs ++ ws)
+among_behind ds [] ws a = a
+among_behind ds (v ∷ vs) ws a = among_more ds v (vs ++ ws) (among_behind ds vs ws a)
 
-all_of : (P Q : Diag → Type 0) → ((d : Diag) → P d → Q d) → (xs : List Diag) → AllByRecursion P xs → AllByRecursion Q xs
-all_of P Q f [] a = tt
-all_of P Q f (x ∷ xs) a = (f x a.0, all_of P Q f xs a.1)
+among_append : (ds es : List Diag) (vs ws : List Word) → AreAmong ds vs → AreAmong es ws → AreAmong (ds ++ es) (vs ++ ws)
+among_append [] es vs ws a b = among_behind es vs ws b
+among_append (d ∷ ds) es [] ws a b = absurd a
+among_append (d ∷ ds) es (v ∷ vs) ws (inl a) b = inl (a.0, among_append ds es vs ws a.1 b)
+among_append (d ∷ ds) es (v ∷ vs) ws (inr a) b = inr (among_append (d ∷ ds) es vs ws a b)
 
--- at most one diagnostic, at this very place
-abbrev IsLone : ℕ → ℕ → List Diag → Type 0
-IsLone line col [] = Unit {0}
-IsLone line col (d ∷ []) = (d.at.line ≡ line) × (d.at.col ≡ col)
-IsLone line col (d ∷ e ∷ ds) = ⊥
+-- what holds of the words' places holds of the diagnostics'
+among_all : (P : Pos → Type 0) (ds : List Diag) (ws : List Word) → AreAmong ds ws → AllByRecursion P (places ws) → AllByRecursion P (map (λ (d : Diag). d.at) ds)
+among_all P [] ws a h = tt
+among_all P (d ∷ ds) [] a h = absurd a
+among_all P (d ∷ ds) (w ∷ ws) (inl a) h = (subst P (sym a.0) h.0, among_all P ds ws a.1 h.1)
+among_all P (d ∷ ds) (w ∷ ws) (inr a) h = among_all P (d ∷ ds) ws a h.1
 
--- diagnostics in order on a line, from the column low on
-abbrev IsPart : ℕ → ℕ → List Diag → Type 0
-IsPart line low ds = AllByRecursion (OnLine line low) ds × AreOrdered ds
+-- diagnostics at words that rise are in order
+among_rising : (ds : List Diag) (ws : List Word) → AreAmong ds ws → AreRising (places ws) → AreOrdered ds
+among_rising [] ws a h = tt
+among_rising (d ∷ ds) [] a h = absurd a
+among_rising (d ∷ ds) (w ∷ ws) (inl a) h =
+    (subst (λ (p : Pos). AllByRecursion (IsBefore p) (map (λ (e : Diag). e.at) ds)) (sym a.0) (among_all (IsBefore w.at) ds ws a.1 h.0), among_rising ds ws a.1 h.1)
+among_rising (d ∷ ds) (w ∷ ws) (inr a) h = among_rising (d ∷ ds) ws a h.1
 
-lone_first : (line col low : ℕ) (xs ys : List Diag) → col < low → IsLone line col xs → IsPart line low ys → IsPart line col (xs ++ ys)
-lone_first line col low [] ys lt a b = (all_of (OnLine line low) (OnLine line col) (λ d h. (h.0, omega arith)) ys b.0, b.1)
-lone_first line col low (x ∷ []) ys lt a b = (
-  ((a.0, omega arith), all_of (OnLine line low) (OnLine line col) (λ d h. (h.0, omega arith)) ys b.0),
-  (all_of (OnLine line low) (λ (d : Diag). IsBefore x.at d.at) (λ d h. inr (omega arith, omega arith)) ys b.0, b.1),
-)
-lone_first line col low (x ∷ y ∷ xs) ys lt a b = absurd a
+among_use : (w : Word) (u : Use) → AreAmong (use_diags w u) (w ∷ [])
+among_use w Missing = inl (refl, tt)
+among_use w Ambiguous = inl (refl, tt)
+among_use w (Found e) = tt
 
-lone_use : (line col : ℕ) (text : List ℕ) (u : Use) → IsLone line col (use_diags line col text u)
-lone_use line col text Missing = (refl, refl)
-lone_use line col text Ambiguous = (refl, refl)
-lone_use line col text (Found e) = tt
+among_if : (w : Word) (text : List ℕ) (b : Bool) → AreAmong (cond b (diag_at w.at 23 text ∷ []) []) (w ∷ [])
+among_if w text true = inl (refl, tt)
+among_if w text false = tt
 
-lone_if : (line col : ℕ) (text : List ℕ) (b : Bool) → IsLone line col (cond b (diag_at line col 23 text ∷ []) [])
-lone_if line col text true = (refl, refl)
-lone_if line col text false = tt
+among_twice : (w : Word) (before : List (List ℕ)) → AreAmong (twice_diags w before) (w ∷ [])
+among_twice w before = among_if w (w.text ++ codes " is defined twice") (list_any (same_text w.text) before)
 
-part_fields : (pairs : List Pair) (line col : ℕ) (fs : List (List ℕ)) → IsPart line col (field_diags pairs line col fs)
-part_fields pairs line col [] = (tt, tt)
-part_fields pairs line col (f ∷ fs) =
-    lone_first line col (col + (length f + 1)) (use_diags line col f (use_at pairs f)) (field_diags pairs line (col + (length f + 1)) fs) (omega arith)
-    (lone_use line col f (use_at pairs f)) (part_fields pairs line (col + (length f + 1)) fs)
+among_fields : (pairs : List Pair) (fs : List Word) → AreAmong (field_diags pairs fs) fs
+among_fields pairs [] = tt
+among_fields pairs (f ∷ fs) = among_append (use_diags f (use_at pairs f.text)) (field_diags pairs fs) (f ∷ []) fs (among_use f (use_at pairs f.text)) (among_fields pairs fs)
 
-lone_twice : (line col : ℕ) (text : List ℕ) (before : List (List ℕ)) → IsLone line col (twice_diags line col text before)
-lone_twice line col text before = lone_if line col (text ++ codes " is defined twice") (list_any (same_text text) before)
+among_data : (pairs : List Pair) (before : List DataItem) (d : DataItem) → AreAmong (data_diags pairs before d) (d.ty ∷ d.con ∷ d.fields)
+among_data pairs before d =
+    let tys : List (List ℕ) = map (λ (e : DataItem). e.ty.text) before in
+    let cons : List (List ℕ) = map (λ (e : DataItem). e.con.text) before in
+    among_append (twice_diags d.ty tys) (twice_diags d.con cons ++ field_diags pairs d.fields) (d.ty ∷ []) (d.con ∷ d.fields) (among_twice d.ty tys)
+    (among_append (twice_diags d.con cons) (field_diags pairs d.fields) (d.con ∷ []) d.fields (among_twice d.con cons) (among_fields pairs d.fields))
 
-part_line : (pairs : List Pair) (line : ℕ) (before : List DataLine) (d : DataLine) → IsPart line 6 (data_diags pairs line before d)
-part_line pairs line before d =
-    let con : ℕ = 6 + (length d.ty + 3) in
-    let start : ℕ = 6 + (length d.ty + (3 + (length d.con + 1))) in
-    let cons : List (List ℕ) = map (λ (e : DataLine). e.con) before in
-    let fields : List Diag = field_diags pairs line start d.fields in
-    lone_first line 6 con (twice_diags line 6 d.ty (map (λ (e : DataLine). e.ty) before)) (twice_diags line con d.con cons ++ fields) (omega arith)
-    (lone_twice line 6 d.ty (map (λ (e : DataLine). e.ty) before))
-    (lone_first line con start (twice_diags line con d.con cons) fields (omega arith) (lone_twice line con d.con cons) (part_fields pairs line start d.fields))
+among_datas : (pairs : List Pair) (before ds : List DataItem) → AreAmong (datas_diags pairs before ds) (flat_map (λ (d : DataItem). d.ty ∷ d.con ∷ d.fields) ds)
+among_datas pairs before [] = tt
+among_datas pairs before (d ∷ ds) =
+    among_append (data_diags pairs before d) (datas_diags pairs (before ++ d ∷ []) ds) (d.ty ∷ d.con ∷ d.fields) (flat_map (λ (e : DataItem). e.ty ∷ e.con ∷ e.fields) ds)
+    (among_data pairs before d) (among_datas pairs (before ++ d ∷ []) ds)
 
--- a line's diagnostics stand before those of later lines
-line_first : (line : ℕ) (xs ys : List Diag) → AllByRecursion (OnLine line 6) xs → AreOrdered xs → AllByRecursion (FromLine (line + 1)) ys → AreOrdered ys
-    → AllByRecursion (FromLine line) (xs ++ ys) × AreOrdered (xs ++ ys)
-line_first line [] ys a o b p = (all_of (FromLine (line + 1)) (FromLine line) (λ d h. omega arith) ys b, p)
-line_first line (x ∷ xs) ys a o b p =
-    let rest : AllByRecursion (FromLine line) (xs ++ ys) × AreOrdered (xs ++ ys) = line_first line xs ys a.1 o.1 b p in
-    let at : x.at.line ≡ line = a.0.0 in
-    ((omega arith, rest.0), (all_append (λ (d : Diag). IsBefore x.at d.at) xs ys o.0 (all_of (FromLine (line + 1)) (λ (d : Diag). IsBefore x.at d.at) (λ d h. inl (omega arith)) ys b), rest.1))
-
-ordered_lines : (pairs : List Pair) (line : ℕ) (before ds : List DataLine) → AllByRecursion (FromLine line) (datas_diags pairs line before ds) × AreOrdered (datas_diags pairs line before ds)
-ordered_lines pairs line before [] = (tt, tt)
-ordered_lines pairs line before (d ∷ ds) =
-    let part : IsPart line 6 (data_diags pairs line before d) = part_line pairs line before d in
-    let rest : AllByRecursion (FromLine (line + 1)) (datas_diags pairs (line + 1) (before ++ d ∷ []) ds) × AreOrdered (datas_diags pairs (line + 1) (before ++ d ∷ []) ds) = ordered_lines pairs (line + 1) (before ++ d ∷ []) ds in
-    line_first line (data_diags pairs line before d) (datas_diags pairs (line + 1) (before ++ d ∷ []) ds) part.0 part.1 rest.0 rest.1
-
-pub are_ordered : (pairs : List Pair) (line : ℕ) (ds : List DataLine) → AreOrdered (datas_diags pairs line [] ds)
-are_ordered pairs line ds = (ordered_lines pairs line [] ds).1
+-- the diagnostics of a module stand at its names, so where these rise they do
+pub are_ordered : (pairs : List Pair) (w : Written) → AreRising (places (words w)) → AreOrdered (datas_diags pairs [] w.datas)
+are_ordered pairs w h =
+    let of_datas : List Word = flat_map (λ (d : DataItem). d.ty ∷ d.con ∷ d.fields) w.datas in
+    among_rising (datas_diags pairs [] w.datas) (words w) (among_behind (datas_diags pairs [] w.datas) w.imports of_datas (among_datas pairs [] w.datas)) h

@@ -1,4 +1,4 @@
--- The steps of the loops over imports and lines.
+-- The steps of the loops over imports and data types.
 use Rattle.std.proofs.Common.{◌≡◌, refl, sym, ap, ◌∙◌, ℕ, ◌+◌, ◌<◌, Bool, true, false, cond, ◌||◌, List, [], ◌∷◌, ◌++◌, length, get_or, drop, take, append_assoc}
 use Rattle.std.proofs.lemmas.List.{drop_more, take_more}
 use Rattle.std.proofs.lemmas.List.Folds.{list_any-append}
@@ -6,7 +6,7 @@ use Rattle.std.proofs.lemmas.Option.{slice_get_read}
 use Rattle.std.proofs.lemmas.Cmp.{nat_list_eq_equiv}
 use Rattle.std.specs.List.{list_any}
 use Rattle.mk_base.specs.declared.diag.Diag.{Diag}
-use Rattle.plain_form.specs.declared.form.DataLine.{DataLine}
+use Rattle.plain_form.specs.declared.form.DataItem.{DataItem}
 use Rattle.plain_form.specs.Words.{same_text}
 use Rattle.plain_scope.specs.declared.scope.Content.{Content}
 use Rattle.plain_scope.specs.Scope.{Pair, data_diags, datas_diags, one_at, contents_at}
@@ -47,14 +47,14 @@ pub three_parts : (d d1 d2 d3 a b c : List Diag) → d1 ≡ d ++ a → d2 ≡ d1
 three_parts d d1 d2 d3 a b c e1 e2 e3 =
     e3 ∙ ap (λ x. x ++ c) (e2 ∙ ap (λ x. x ++ b) e1) ∙ append_assoc (d ++ a) b c ∙ append_assoc d a (b ++ c)
 
--- once the diagnostics of a line are put behind the earlier ones, those of the later lines are left
-pub datas_next : (pairs : List Pair) (line i : ℕ) (ds : List DataLine) (d : DataLine) (old new all : List Diag) → i < length ds → d ≡ get_or ds i d
-    → new ≡ old ++ data_diags pairs line (take i ds) d → old ++ datas_diags pairs line (take i ds) (drop i ds) ≡ all
-    → new ++ datas_diags pairs (line + 1) (take (i + 1) ds) (drop (i + 1) ds) ≡ all
-datas_next pairs line i ds d old new all lt is e g =
-    let tail : List Diag = datas_diags pairs (line + 1) (take i ds ++ d ∷ []) (drop (i + 1) ds) in
-    ap (λ b. new ++ datas_diags pairs (line + 1) b (drop (i + 1) ds)) (front_next ds i d lt is)
+-- once the diagnostics of a data type are put behind the earlier ones, those of the later data types are left
+pub datas_next : (pairs : List Pair) (i : ℕ) (ds : List DataItem) (d : DataItem) (old new all : List Diag) → i < length ds → d ≡ get_or ds i d
+    → new ≡ old ++ data_diags pairs (take i ds) d → old ++ datas_diags pairs (take i ds) (drop i ds) ≡ all
+    → new ++ datas_diags pairs (take (i + 1) ds) (drop (i + 1) ds) ≡ all
+datas_next pairs i ds d old new all lt is e g =
+    let tail : List Diag = datas_diags pairs (take i ds ++ d ∷ []) (drop (i + 1) ds) in
+    ap (λ b. new ++ datas_diags pairs b (drop (i + 1) ds)) (front_next ds i d lt is)
     ∙ ap (λ n. n ++ tail) e
-    ∙ append_assoc old (data_diags pairs line (take i ds) d) tail
-    ∙ ap (λ r. old ++ datas_diags pairs line (take i ds) r) (sym (rest_next ds i d lt is))
+    ∙ append_assoc old (data_diags pairs (take i ds) d) tail
+    ∙ ap (λ r. old ++ datas_diags pairs (take i ds) r) (sym (rest_next ds i d lt is))
     ∙ g

@@ -1,12 +1,14 @@
 -- Scope and diagnostics of a module (Haskell 2010 Report, chapter 5): the names in scope are pairs of a name and an entity.
-use Rattle.std.specs.Prelude.{ℕ, ◌+◌, Bool, true, false, ◌&&◌, List, [], ◌∷◌, ◌++◌, map, length, slice_get, Some, None, codes, if◌then◌else◌}
+use Rattle.std.specs.Prelude.{ℕ, Bool, true, false, ◌&&◌, List, [], ◌∷◌, ◌++◌, map, slice_get, Some, None, codes, if◌then◌else◌}
 use Rattle.std.specs.declared.option.Option.{Option}
 use Rattle.std.specs.List.{list_all, list_any, flat_map, filter}
 use Rattle.mk_base.specs.declared.name.Name.{Name}
 use Rattle.mk_base.specs.declared.name.Space.{Space}
 use Rattle.mk_base.specs.declared.name.Space.TheVariants.{Var, Con, Ty}
 use Rattle.mk_base.specs.declared.diag.Diag.{Diag}
-use Rattle.plain_form.specs.declared.form.DataLine.{DataLine}
+use Rattle.mk_base.specs.declared.place.Pos.{Pos}
+use Rattle.plain_form.specs.declared.form.Word.{Word}
+use Rattle.plain_form.specs.declared.form.DataItem.{DataItem}
 use Rattle.plain_form.specs.declared.form.Written.{Written}
 use Rattle.plain_scope.specs.declared.scope.DataDecl.{DataDecl}
 use Rattle.plain_scope.specs.declared.scope.Content.{Content}
@@ -40,8 +42,8 @@ exports_of unit m ds = flat_map (λ d. entity unit m Ty d.0 ∷ entity unit m Co
 abbrev pub brought : List ℕ → List Name → List Pair
 brought m es = flat_map (λ e. record { qualifier = []; entity = e } ∷ record { qualifier = m; entity = e } ∷ []) es
 
-abbrev pub heads : List DataLine → List (List ℕ × List ℕ)
-heads ds = map (λ d. (d.ty, d.con)) ds
+abbrev pub heads : List DataItem → List (List ℕ × List ℕ)
+heads ds = map (λ (d : DataItem). (d.ty.text, d.con.text)) ds
 
 abbrev pub content_heads : List DataDecl → List (List ℕ × List ℕ)
 content_heads ds = map (λ d. (d.ty, d.con)) ds
@@ -67,45 +69,42 @@ use_of (e ∷ es) = if list_all (same_entity e) es then Found e else Ambiguous
 abbrev pub use_at : List Pair → List ℕ → Use
 use_at pairs text = use_of (referred pairs text)
 
-abbrev pub diag_at : ℕ → ℕ → ℕ → List ℕ → Diag
-diag_at line col code text = record { at = record { line = line; col = col }; code = code; text = text }
+abbrev pub diag_at : Pos → ℕ → List ℕ → Diag
+diag_at at code text = record { at = at; code = code; text = text }
 
-abbrev pub use_diags : ℕ → ℕ → List ℕ → Use → List Diag
-use_diags line col text Missing = diag_at line col 21 (text ++ codes " is not in scope") ∷ []
-use_diags line col text Ambiguous = diag_at line col 22 (text ++ codes " is ambiguous") ∷ []
-use_diags line col text (Found e) = []
+abbrev pub use_diags : Word → Use → List Diag
+use_diags w Missing = diag_at w.at 21 (w.text ++ codes " is not in scope") ∷ []
+use_diags w Ambiguous = diag_at w.at 22 (w.text ++ codes " is ambiguous") ∷ []
+use_diags w (Found e) = []
 
--- a data type's fields, the first of them at column col
-abbrev pub field_diags : List Pair → ℕ → ℕ → List (List ℕ) → List Diag
-field_diags pairs line col [] = []
-field_diags pairs line col (f ∷ fs) = use_diags line col f (use_at pairs f) ++ field_diags pairs line (col + (length f + 1)) fs
+-- the uses of a data type's fields
+abbrev pub field_diags : List Pair → List Word → List Diag
+field_diags pairs fields = flat_map (λ (f : Word). use_diags f (use_at pairs f.text)) fields
 
-abbrev pub twice_diags : ℕ → ℕ → List ℕ → List (List ℕ) → List Diag
-twice_diags line col text before = if list_any (same_text text) before then diag_at line col 23 (text ++ codes " is defined twice") ∷ [] else []
+-- a name that one before it has too
+abbrev pub twice_diags : Word → List (List ℕ) → List Diag
+twice_diags w before = if list_any (same_text w.text) before then diag_at w.at 23 (w.text ++ codes " is defined twice") ∷ [] else []
 
--- the diagnostics of a data type's line: its type and its constructor where they are defined again, and its fields
-abbrev pub data_diags : List Pair → ℕ → List DataLine → DataLine → List Diag
-data_diags pairs line before d = twice_diags line 6 d.ty (map (λ (e : DataLine). e.ty) before)
-    ++ (twice_diags line (6 + (length d.ty + 3)) d.con (map (λ (e : DataLine). e.con) before)
-    ++ field_diags pairs line (6 + (length d.ty + (3 + (length d.con + 1)))) d.fields)
+-- the diagnostics of a data type: its type and its constructor where they are defined again, and its fields
+abbrev pub data_diags : List Pair → List DataItem → DataItem → List Diag
+data_diags pairs before d = twice_diags d.ty (map (λ (e : DataItem). e.ty.text) before)
+    ++ (twice_diags d.con (map (λ (e : DataItem). e.con.text) before)
+    ++ field_diags pairs d.fields)
 
--- the diagnostics of the data types in their order, the first of them on the given line
-abbrev pub datas_diags : List Pair → ℕ → List DataLine → List DataLine → List Diag
-datas_diags pairs line before [] = []
-datas_diags pairs line before (d ∷ ds) = data_diags pairs line before d ++ datas_diags pairs (line + 1) (before ++ d ∷ []) ds
-
-abbrev pub first_data_line : Written → ℕ
-first_data_line w = 2 + length w.imports
+-- the diagnostics of the data types in their order, behind those before them
+abbrev pub datas_diags : List Pair → List DataItem → List DataItem → List Diag
+datas_diags pairs before [] = []
+datas_diags pairs before (d ∷ ds) = data_diags pairs before d ++ datas_diags pairs (before ++ d ∷ []) ds
 
 abbrev pub scope_diags : List ℕ → List ℕ → Written → List Content → List Diag
-scope_diags unit m w imported = datas_diags (scope unit m w imported) (first_data_line w) [] w.datas
+scope_diags unit m w imported = datas_diags (scope unit m w imported) [] w.datas
 
 abbrev pub found_names : Use → List Name
 found_names (Found e) = e ∷ []
 found_names _ = []
 
-abbrev pub resolved : List Pair → DataLine → DataDecl
-resolved pairs d = record { ty = d.ty; con = d.con; fields = flat_map (λ f. found_names (use_at pairs f)) d.fields }
+abbrev pub resolved : List Pair → DataItem → DataDecl
+resolved pairs d = record { ty = d.ty.text; con = d.con.text; fields = flat_map (λ (f : Word). found_names (use_at pairs f.text)) d.fields }
 
 -- what the module offers, where it has no diagnostics
 abbrev pub content_of : List ℕ → List ℕ → Written → List Content → Content

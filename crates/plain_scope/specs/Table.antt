@@ -6,7 +6,7 @@ use Rattle.indexmap.specs.IndexMap.{IndexMap, get}
 use Rattle.indexmap.specs.IndexSet.{IndexSet, contains}
 use Rattle.mk_base.specs.declared.name.Name.{Name}
 use Rattle.mk_base.specs.declared.name.Space.TheVariants.{Ty}
-use Rattle.plain_form.specs.declared.form.DataLine.{DataLine}
+use Rattle.plain_form.specs.declared.form.DataItem.{DataItem}
 use Rattle.plain_form.specs.Words.{same_text}
 use Rattle.plain_scope.specs.declared.lines.Seen.{Seen}
 use Rattle.plain_scope.specs.declared.scope.Content.{Content}
@@ -50,6 +50,6 @@ with_contents unit (c ∷ cs) text u = with_contents unit cs text (with_types un
 abbrev pub HasSeenWords : {S : Type 0} → IndexSet (List ℕ) S → List (List ℕ) → Type 0
 HasSeenWords seen words = (text : List ℕ) → contains same_text seen text ≡ list_any (same_text text) words
 
--- the sets have exactly the types and the constructors of these lines
-abbrev pub HasSeen : Seen → List DataLine → Type 0
-HasSeen seen before = HasSeenWords seen.types (map (λ (e : DataLine). e.ty) before) × HasSeenWords seen.cons (map (λ (e : DataLine). e.con) before)
+-- the sets have exactly the types and the constructors of these data types
+abbrev pub HasSeen : Seen → List DataItem → Type 0
+HasSeen seen before = HasSeenWords seen.types (map (λ (e : DataItem). e.ty.text) before) × HasSeenWords seen.cons (map (λ (e : DataItem). e.con.text) before)

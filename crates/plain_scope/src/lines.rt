@@ -1,7 +1,6 @@
-//! The diagnostics of a module's lines, and what their fields refer to.
-ghost use Rattle.std.specs.Prelude.{◌≡◌, ◌≤◌, ◌+◌, ◌++◌, ◌∷◌, [], ℕ, List as Row, IfOk, OnOk, length, map};
-ghost use Rattle.std.specs.List.{AllByRecursion, flat_map};
-ghost use Rattle.plain_form.specs.Form.{line_text, OfData};
+//! The diagnostics of a module's data types, and what their fields refer to.
+ghost use Rattle.std.specs.Prelude.{◌≡◌, ◌++◌, ◌∷◌, [], ℕ, List as Row, IfOk, OnOk, map};
+ghost use Rattle.std.specs.List.{flat_map};
 ghost use Rattle.plain_scope.specs.Scope.{Pair, use_at, diag_at, use_diags, found_names, field_diags, twice_diags, data_diags, datas_diags, resolved};
 ghost use Rattle.plain_scope.specs.Table.{IsTable, use_in, HasSeenWords, HasSeen};
 
@@ -12,141 +11,116 @@ use mk_base::diag::Diag;
 use mk_base::list::List;
 use mk_base::memory::NoMemory;
 use mk_base::name::Name;
-use mk_base::place::Pos;
 use mk_base::text::Text;
-use plain_form::form::DataLine;
+use plain_form::form::{DataItem, Word};
 use std::alloc::Global;
 
-/// The types and the constructors of the lines so far.
+/// The types and the constructors of the data types so far.
 #[derive(Drop)]
 pub struct Seen {
     pub types: IndexSet<Text>,
     pub cons: IndexSet<Text>,
 }
 
+/// Puts a diagnostic at a word's place behind `diags`: its text is the word and `rest`.
 fn push_diag(
     alloc: Global,
     diags: &mut List<Diag>,
-    at: Pos,
     code: u8,
-    word: &Text,
+    word: &Word,
     rest: &[u8],
 ) -> Result<(), NoMemory>
-    ensures { OnOk result (diags.new ≡ diags.old ++ diag_at at.line at.col code (word.now ++ rest.now) ∷ []) }
+    ensures { OnOk result (diags.new ≡ diags.old ++ diag_at word.now.at code (word.now.text ++ rest.now) ∷ []) }
 {
-    let mut text = word.copy(alloc)?;
+    let mut text = word.text.copy(alloc)?;
     text.push_slice(rest)?;
+    let at = word.at;
     diags.push(Diag { at, code, text })
 }
 
-/// The column behind a word and the space that follows it.
-fn after_word(col: u32, word: &Text) -> u32
-    requires { col + (length word.now + 1) ≤ 2097152 }
-    ensures { result ≡ col + (length word.now + 1) }
-{
-    col + (word.len() as u32 + 1)
-}
-
+/// Puts the entity that a field refers to behind `names`, or what is wrong with it behind `diags`.
 fn check_use(
     alloc: Global,
     types: &Types,
-    at: Pos,
-    word: &Text,
+    word: &Word,
     diags: &mut List<Diag>,
     names: &mut List<Name>,
 ) -> Result<(), NoMemory>
-    ensures diags { OnOk result (diags.new ≡ diags.old ++ use_diags at.line at.col word.now (use_in types.now word.now)) }
-    ensures names { OnOk result (names.new ≡ names.old ++ found_names (use_in types.now word.now)) }
+    ensures diags { OnOk result (diags.new ≡ diags.old ++ use_diags word.now (use_in types.now word.now.text)) }
+    ensures names { OnOk result (names.new ≡ names.old ++ found_names (use_in types.now word.now.text)) }
 {
-    match types.get(word) {
+    match types.get(&word.text) {
         Some(Some(entity)) => names.push(entity.copy(alloc)?),
-        Some(None) => push_diag(alloc, diags, at, 22, word, b" is ambiguous"),
-        None => push_diag(alloc, diags, at, 21, word, b" is not in scope"),
+        Some(None) => push_diag(alloc, diags, 22, word, b" is ambiguous"),
+        None => push_diag(alloc, diags, 21, word, b" is not in scope"),
     }
 }
 
+/// The entities that a data type's fields refer to. Puts their diagnostics behind `diags`.
 fn check_fields(
     alloc: Global,
     types: &Types,
-    start: Pos,
-    fields: &[Text],
+    fields: &[Word],
     diags: &mut List<Diag>,
 ) -> Result<List<Name>, NoMemory>
-    requires { start.col + length (flat_map (λ (f : Row ℕ). 32 ∷ f) fields.now) ≤ 2097152 }
-    ensures diags { OnOk result ((pairs : Row Pair) → IsTable types.now pairs → diags.new ≡ diags.old ++ field_diags pairs start.line start.col fields.now) }
-    ensures names { IfOk result (λ ns. (pairs : Row Pair) → IsTable types.now pairs → ns ≡ flat_map (λ f. found_names (use_at pairs f)) fields.now) }
+    ensures diags { OnOk result ((pairs : Row Pair) → IsTable types.now pairs → diags.new ≡ diags.old ++ field_diags pairs fields.now) }
+    ensures names { IfOk result (λ ns. (pairs : Row Pair) → IsTable types.now pairs → ns ≡ flat_map (λ (f : Word). found_names (use_at pairs f.text)) fields.now) }
 {
     let mut names = List::new(alloc);
-    let line = start.line;
-    let mut col = start.col;
     for field in fields {
-        check_use(alloc, types, Pos { line, col }, field, diags, &mut names)?;
-        col = after_word(col, field);
+        check_use(alloc, types, field, diags, &mut names)?;
     }
     Ok(names)
 }
 
+/// Puts a name into the set of those of its kind so far, and a diagnostic behind `diags` where it stands there already.
 fn check_twice(
     alloc: Global,
     seen: &mut IndexSet<Text>,
-    at: Pos,
-    word: &Text,
+    word: &Word,
     diags: &mut List<Diag>,
 ) -> Result<(), NoMemory>
-    ensures diags { OnOk result ((words : Row (Row ℕ)) → HasSeenWords seen.old words → diags.new ≡ diags.old ++ twice_diags at.line at.col word.now words) }
-    ensures seen { OnOk result ((words : Row (Row ℕ)) → HasSeenWords seen.old words → HasSeenWords seen.new (words ++ word.now ∷ [])) }
+    ensures diags { OnOk result ((words : Row (Row ℕ)) → HasSeenWords seen.old words → diags.new ≡ diags.old ++ twice_diags word.now words) }
+    ensures seen { OnOk result ((words : Row (Row ℕ)) → HasSeenWords seen.old words → HasSeenWords seen.new (words ++ word.now.text ∷ [])) }
 {
-    let added = seen.insert(word.copy(alloc)?)?;
+    let added = seen.insert(word.text.copy(alloc)?)?;
     if added {
         return Ok(());
     }
-    push_diag(alloc, diags, at, 23, word, b" is defined twice")?;
+    push_diag(alloc, diags, 23, word, b" is defined twice")?;
     Ok(())
 }
 
-fn check_line(
+/// Checks a data type behind those whose names are in `seen`. Puts its diagnostics behind `diags`.
+fn check_data(
     alloc: Global,
     types: &Types,
     seen: &mut Seen,
-    line: u32,
-    declared: &DataLine,
+    item: &DataItem,
     diags: &mut List<Diag>,
 ) -> Result<DataDecl, NoMemory>
-    requires { length (line_text (OfData declared.now)) ≤ 1048576 }
-    ensures diags { OnOk result ((pairs : Row Pair) (before : Row DataLine) → IsTable types.now pairs → HasSeen seen.old before → diags.new ≡ diags.old ++ data_diags pairs line before declared.now) }
-    ensures seen { OnOk result ((before : Row DataLine) → HasSeen seen.old before → HasSeen seen.new (before ++ declared.now ∷ [])) }
-    ensures decl { IfOk result (λ d. (pairs : Row Pair) → IsTable types.now pairs → d ≡ resolved pairs declared.now) }
+    ensures diags { OnOk result ((pairs : Row Pair) (before : Row DataItem) → IsTable types.now pairs → HasSeen seen.old before → diags.new ≡ diags.old ++ data_diags pairs before item.now) }
+    ensures seen { OnOk result ((before : Row DataItem) → HasSeen seen.old before → HasSeen seen.new (before ++ item.now ∷ [])) }
+    ensures decl { IfOk result (λ d. (pairs : Row Pair) → IsTable types.now pairs → d ≡ resolved pairs item.now) }
 {
-    let ty = Pos { line, col: 6 };
-    check_twice(alloc, &mut seen.types, ty, &declared.ty, diags)?;
-    let con = Pos {
-        line,
-        col: 6 + (declared.ty.len() as u32 + 3),
-    };
-    check_twice(alloc, &mut seen.cons, con, &declared.con, diags)?;
-    let start = Pos {
-        line,
-        col: after_word(con.col, &declared.con),
-    };
-    let fields = check_fields(alloc, types, start, declared.fields.as_slice(), diags)?;
+    check_twice(alloc, &mut seen.types, &item.ty, diags)?;
+    check_twice(alloc, &mut seen.cons, &item.con, diags)?;
+    let fields = check_fields(alloc, types, item.fields.as_slice(), diags)?;
     Ok(DataDecl {
-        ty: declared.ty.copy(alloc)?,
-        con: declared.con.copy(alloc)?,
+        ty: item.ty.text.copy(alloc)?,
+        con: item.con.text.copy(alloc)?,
         fields,
     })
 }
 
-/// Checks data types in their order, the first of them on the line `first`. Puts their diagnostics behind `diags`.
-pub fn check_lines(
+/// Checks data types in their order. Puts their diagnostics behind `diags`.
+pub fn check_datas(
     alloc: Global,
     types: &Types,
-    first: u32,
-    datas: &[DataLine],
+    datas: &[DataItem],
     diags: &mut List<Diag>,
 ) -> Result<List<DataDecl>, NoMemory>
-    requires lines { first + length datas.now ≤ 2097152 }
-    requires words { AllByRecursion (λ (d : DataLine). length (line_text (OfData d)) ≤ 1048576) datas.now }
-    ensures diags { OnOk result ((pairs : Row Pair) → IsTable types.now pairs → diags.new ≡ diags.old ++ datas_diags pairs first [] datas.now) }
+    ensures diags { OnOk result ((pairs : Row Pair) → IsTable types.now pairs → diags.new ≡ diags.old ++ datas_diags pairs [] datas.now) }
     ensures decls { IfOk result (λ ds. (pairs : Row Pair) → IsTable types.now pairs → ds ≡ map (resolved pairs) datas.now) }
 {
     let mut seen = Seen {
@@ -154,10 +128,8 @@ pub fn check_lines(
         cons: IndexSet::new(alloc),
     };
     let mut decls = List::new(alloc);
-    let mut line = first;
-    for declared in datas {
-        decls.push(check_line(alloc, types, &mut seen, line, declared, diags)?)?;
-        line += 1;
+    for item in datas {
+        decls.push(check_data(alloc, types, &mut seen, item, diags)?)?;
     }
     Ok(decls)
 }

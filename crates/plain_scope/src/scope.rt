@@ -1,12 +1,10 @@
 //! What a module declares and what its names refer to.
-ghost use Rattle.std.specs.Prelude.{◌≡◌, ◌≤◌, ◌<◌, ◌+◌, ℕ, List as Row, IfOk, length};
+ghost use Rattle.std.specs.Prelude.{◌≡◌, ◌<◌, IfOk, length};
 ghost use Rattle.std.specs.List.{AllByRecursion};
-ghost use Rattle.plain_form.specs.Form.{line_text, OfData};
-ghost use Rattle.plain_form.specs.declared.form.DataLine.{DataLine};
-ghost use Rattle.plain_scope.specs.Ordered.{AreOrdered};
-ghost use Rattle.plain_scope.specs.Scope.{check_of, contents_at, scope_diags};
+ghost use Rattle.plain_scope.specs.Ordered.{DiagnosticsAreOrdered};
+ghost use Rattle.plain_scope.specs.Scope.{check_of, contents_at};
 
-use crate::lines::check_lines;
+use crate::lines::check_datas;
 use crate::table::types_in_scope;
 use mk_base::diag::Diag;
 use mk_base::list::List;
@@ -24,7 +22,7 @@ pub struct DataDecl {
     pub fields: List<Name>,
 }
 
-/// What a sound module offers: its name, and its data types in the order of its lines.
+/// What a sound module offers: its name, and its data types in the order of its source.
 #[derive(Debug, Drop)]
 pub struct Content {
     pub module: Text,
@@ -47,15 +45,12 @@ pub fn check(
     contents: &[Content],
     imports: &[usize],
 ) -> Result<Checked, NoMemory>
-    requires lines { length written.now.imports + length written.now.datas ≤ 1048576 }
-    requires words { AllByRecursion (λ (d : DataLine). length (line_text (OfData d)) ≤ 1048576) written.now.datas }
     requires within { AllByRecursion (λ i. i < length contents.now) imports.now }
     ensures { IfOk result (λ c. c ≡ check_of unit.now name.now written.now (contents_at contents.now imports.now)) }
 {
     let types = types_in_scope(alloc, unit, name, written, contents, imports)?;
-    let first = 2 + written.imports.len() as u32;
     let mut diags = List::new(alloc);
-    let datas = check_lines(alloc, &types, first, written.datas.as_slice(), &mut diags)?;
+    let datas = check_datas(alloc, &types, written.datas.as_slice(), &mut diags)?;
     if !diags.is_empty() {
         return Ok(Checked::Wrong(diags));
     }
@@ -63,7 +58,7 @@ pub fn check(
     Ok(Checked::Sound(Content { module, datas }))
 }
 
-/// The diagnostics of a module stand in the order of their places, no two at one place.
+/// Where the names of a module stand in the order of their places, so do its diagnostics, no two at one place.
 pub fn diagnostics_are_ordered()
-    ensures { (unit m : Row ℕ) (w : Written) (imported : Row Content) → AreOrdered (scope_diags unit m w imported) }
+    ensures { DiagnosticsAreOrdered }
 {}

@@ -10,7 +10,7 @@ use indexmap::IndexMap;
 use mk_base::memory::NoMemory;
 use mk_base::name::{ModName, Name, Occ, Space, Unit};
 use mk_base::text::Text;
-use plain_form::form::{DataLine, Written};
+use plain_form::form::{DataItem, Written};
 use std::alloc::Global;
 
 /// What the name of a type refers to: an entity, or none where it is ambiguous.
@@ -77,17 +77,17 @@ fn add_type(
     Ok(())
 }
 
-fn add_lines(
+fn add_items(
     alloc: Global,
     types: &mut Types,
     unit: &[u8],
     home: &[u8],
-    datas: &[DataLine],
+    datas: &[DataItem],
 ) -> Result<(), NoMemory>
     ensures { OnOk result ((text : Row ℕ) → use_in types.new text ≡ with_types unit.now home.now (heads datas.now) text (use_in types.old text)) }
 {
-    for line in datas {
-        add_type(alloc, types, unit, home, &line.ty)?;
+    for item in datas {
+        add_type(alloc, types, unit, home, &item.ty.text)?;
     }
     Ok(())
 }
@@ -143,7 +143,7 @@ pub fn types_in_scope(
     ensures { IfOk result (λ types. IsTable types (scope unit.now name.now written.now (contents_at contents.now imports.now))) }
 {
     let mut types: Types = IndexMap::new(alloc);
-    add_lines(alloc, &mut types, unit, name, written.datas.as_slice())?;
+    add_items(alloc, &mut types, unit, name, written.datas.as_slice())?;
     add_imports(alloc, &mut types, unit, contents, imports)?;
     Ok(types)
 }

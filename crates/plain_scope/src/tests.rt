@@ -1,69 +1,67 @@
 //! Tests of the check of a module.
-ghost use Rattle.std.specs.Prelude.{◌≤◌, ◌<◌, ◌∷◌, ℕ, List as Row, IfOk, IfSome, length};
-ghost use Rattle.std.specs.List.{AllByRecursion, flat_map};
-ghost use Rattle.plain_form.specs.Form.{line_text, OfData};
+ghost use Rattle.std.specs.Prelude.{◌<◌, IfOk};
+ghost use Rattle.std.specs.List.{AllByRecursion};
 
 use crate::scope::{Checked, Content, DataDecl, check, diagnostics_are_ordered};
 use mk_base::diag::Diag;
 use mk_base::list::List;
 use mk_base::memory::NoMemory;
+use mk_base::place::Pos;
 use mk_base::text::Text;
-use plain_form::form::{DataLine, Written};
+use plain_form::form::{DataItem, Word, Written};
 use std::alloc::Global;
 use std::test::Fail;
 
-/// A word that the tests write: at most 64 bytes of it.
-fn word(alloc: Global, text: &[u8]) -> Result<Text, NoMemory>
-    ensures { IfOk result (λ t. length t ≤ 64) }
-{
-    Text::from_slice(alloc, &text[..text.len().min(64)])
+/// The column behind a part of a row and the byte that ends it.
+fn behind(col: u32, part: &[u8]) -> u32 {
+    col.saturating_add(part.len().min(999) as u32)
+        .saturating_add(1)
 }
 
-fn words_of(alloc: Global, text: &[u8]) -> Result<List<Text>, NoMemory> {
+/// The words of a part of a row, which begins at this place.
+fn words_of(alloc: Global, part: &[u8], start: Pos) -> Result<List<Word>, NoMemory> {
     let mut words = List::new(alloc);
-    for part in text.split(|b| *b == b' ') {
-        if !part.is_empty() {
-            words.push(Text::from_slice(alloc, part)?)?;
+    let mut at = start;
+    for word in part.split(|b| *b == b' ') {
+        if !word.is_empty() {
+            let text = Text::from_slice(alloc, word)?;
+            words.push(Word { text, at })?;
         }
+        at.col = behind(at.col, word);
     }
     Ok(words)
 }
 
-/// The fields of a line of at most 1,000 words, from the fourth word on.
-fn fields_of(alloc: Global, words: &[Text]) -> Result<List<Text>, NoMemory>
-    requires { length words.now ≤ 1000 }
-    ensures { IfOk result (λ fs. length (flat_map (λ (f : Row ℕ). 32 ∷ f) fs) ≤ 65000) }
-{
-    let mut fields = List::new(alloc);
-    for text in words {
-        fields.push(word(alloc, text.as_slice())?)?;
-    }
-    Ok(fields)
+fn same_word(alloc: Global, word: &Word) -> Result<Word, NoMemory> {
+    let text = word.text.copy(alloc)?;
+    Ok(Word { text, at: word.at })
 }
 
-/// The line `TYPE = CONSTRUCTOR FIELD ..`, where it is one.
-fn line_of(alloc: Global, text: &[u8]) -> Result<Option<DataLine>, NoMemory>
-    ensures { IfOk result (λ line. IfSome line (λ d. length (line_text (OfData d)) ≤ 1048576)) }
-{
-    let words = words_of(alloc, text)?;
-    let words = words.as_slice();
-    if words.len() < 3 || words.len() > 1000 {
+/// The data type `TYPE = CONSTRUCTOR FIELD ..`, where it is one.
+fn item_of(alloc: Global, words: &[Word]) -> Result<Option<DataItem>, NoMemory> {
+    if words.len() < 3 {
         return Ok(None);
     }
-    let ty = word(alloc, words[0].as_slice())?;
-    let con = word(alloc, words[2].as_slice())?;
-    let fields = fields_of(alloc, &words[3..])?;
-    Ok(Some(DataLine { ty, con, fields }))
+    let ty = same_word(alloc, &words[0])?;
+    let con = same_word(alloc, &words[2])?;
+    let mut fields = List::new(alloc);
+    for word in &words[3..] {
+        fields.push(same_word(alloc, word)?)?;
+    }
+    Ok(Some(DataItem { ty, con, fields }))
 }
 
-fn datas_of(alloc: Global, lines: &[u8]) -> Result<List<DataLine>, NoMemory>
-    ensures { IfOk result (λ ds. AllByRecursion (λ (d : DataLine). length (line_text (OfData d)) ≤ 1048576) ds) }
-{
+/// The data types that a row begins with: the first on line 1, each on the next line, at the columns of the row.
+fn datas_of(alloc: Global, part: &[u8]) -> Result<List<DataItem>, NoMemory> {
     let mut datas = List::new(alloc);
-    for text in lines.split(|b| *b == b';') {
-        if let Some(line) = line_of(alloc, text)? {
-            datas.push(line)?;
+    let mut at = Pos { line: 1, col: 1 };
+    for item in part.split(|b| *b == b';') {
+        let words = words_of(alloc, item, at)?;
+        if let Some(data) = item_of(alloc, words.as_slice())? {
+            datas.push(data)?;
         }
+        at.line = at.line.saturating_add(1);
+        at.col = behind(at.col, item);
     }
     Ok(datas)
 }
@@ -84,13 +82,13 @@ fn places_of(alloc: Global, digits: &[u8], count: usize) -> Result<List<usize>, 
 
 /// A content with these data types: a type and its constructor from each pair of words.
 fn content_of(alloc: Global, module: &[u8], words: &[u8]) -> Result<Content, NoMemory> {
-    let words = words_of(alloc, words)?;
+    let words = words_of(alloc, words, Pos { line: 1, col: 1 })?;
     let mut datas = List::new(alloc);
     for pair in words.as_slice().chunks(2) {
         if pair.len() == 2 {
             datas.push(DataDecl {
-                ty: pair[0].copy(alloc)?,
-                con: pair[1].copy(alloc)?,
+                ty: pair[0].text.copy(alloc)?,
+                con: pair[1].text.copy(alloc)?,
                 fields: List::new(alloc),
             })?;
         }
@@ -101,25 +99,13 @@ fn content_of(alloc: Global, module: &[u8], words: &[u8]) -> Result<Content, NoM
     })
 }
 
-/// Checks module `M` with these lines. Its imports are the contents at these places.
-fn checked(
-    alloc: Global,
-    contents: &[Content],
-    digits: &[u8],
-    lines: &[u8],
-) -> Result<Option<Checked>, NoMemory> {
-    let places = places_of(alloc, digits, contents.len())?;
-    let mut imports = List::new(alloc);
-    for digit in digits {
-        imports.push(Text::from_slice(alloc, &[*digit])?)?;
-    }
-    let datas = datas_of(alloc, lines)?;
-    if imports.len() > 100 || datas.len() > 100 {
-        return Ok(None);
-    }
-    let written = Written { imports, datas };
-    let result = check(alloc, b"main", b"M", &written, contents, places.as_slice())?;
-    Ok(Some(result))
+/// The contents that the tests import.
+fn contents(alloc: Global) -> Result<List<Content>, NoMemory> {
+    let mut contents = List::new(alloc);
+    contents.push(content_of(alloc, b"A", b"T MkT Int Int")?)?;
+    contents.push(content_of(alloc, b"B", b"T B Word MkWord Word Again")?)?;
+    contents.push(content_of(alloc, b"", b"Empty MkEmpty")?)?;
+    Ok(contents)
 }
 
 fn print_diags(out: &mut List<u8>, diags: &[Diag]) -> Result<(), NoMemory> {
@@ -158,72 +144,58 @@ fn print_content(out: &mut List<u8>, content: &Content) -> Result<(), NoMemory> 
     Ok(())
 }
 
-/// The contents that the tests import.
-fn contents(alloc: Global) -> Result<List<Content>, NoMemory> {
-    let mut contents = List::new(alloc);
-    contents.push(content_of(alloc, b"A", b"T MkT Int Int")?)?;
-    contents.push(content_of(alloc, b"B", b"T B Word MkWord Word Again")?)?;
-    contents.push(content_of(alloc, b"", b"Empty MkEmpty")?)?;
-    Ok(contents)
-}
-
-/// What the check says: the diagnostics, or the sound module's data types.
-fn report(alloc: Global, digits: &[u8], lines: &[u8]) -> Result<List<u8>, NoMemory> {
+/// What the check says of module `M`: the diagnostics, or the sound module's data types.
+fn report(alloc: Global, datas: &[u8], digits: &[u8]) -> Result<List<u8>, NoMemory> {
     let contents = contents(alloc)?;
+    let contents = contents.as_slice();
+    let places = places_of(alloc, digits, contents.len())?;
+    let imports = List::new(alloc);
+    let datas = datas_of(alloc, datas)?;
+    let written = Written { imports, datas };
     let mut out = List::new(alloc);
-    match checked(alloc, contents.as_slice(), digits, lines)? {
-        Some(Checked::Wrong(diags)) => print_diags(&mut out, diags.as_slice())?,
-        Some(Checked::Sound(content)) => print_content(&mut out, &content)?,
-        None => out.extend(b"too many")?,
+    match check(alloc, b"main", b"M", &written, contents, places.as_slice())? {
+        Checked::Wrong(diags) => print_diags(&mut out, diags.as_slice())?,
+        Checked::Sound(content) => print_content(&mut out, &content)?,
     }
     Ok(out)
 }
 
-// The places of the contents that are imported, the lines of the data types, and what the check says.
-const CASES: [(&str, &str, &str); 20] = [
-    ("", "", ""),
-    ("", "T = C", "T = C;"),
-    ("", "T = C T U;U = D", "T = C main:M.T main:M.U;U = D;"),
-    ("0", "U = D T Int", "U = D main:A.T main:A.Int;"),
-    ("", "T = C Lost", "2:12 E21 Lost is not in scope;"),
-    (
-        "0",
-        "Type = Con Int Lost Int Gone",
-        "3:21 E21 Lost is not in scope;3:30 E21 Gone is not in scope;",
-    ),
-    ("01", "U = D Word T Int", "4:17 E22 T is ambiguous;"),
-    ("01", "U = D Word Int", "U = D main:B.Word main:A.Int;"),
-    ("00", "U = D T", "U = D main:A.T;"),
-    ("0", "T = C;U = D T", "4:12 E22 T is ambiguous;"),
-    ("0", "T = C;U = D Int", "T = C;U = D main:A.Int;"),
-    (
-        "",
-        "Int = C;Int = D;Int = E",
-        "3:6 E23 Int is defined twice;4:6 E23 Int is defined twice;",
-    ),
-    (
-        "",
-        "T = Con;U = Con;Long = Con",
-        "3:10 E23 Con is defined twice;4:13 E23 Con is defined twice;",
-    ),
-    ("", "T = C;T = D;U = E T", "3:6 E23 T is defined twice;"),
-    ("", "T = T T", "T = T main:M.T;"),
-    ("0", "U = MkT;V = C MkT", "4:12 E21 MkT is not in scope;"),
-    ("1", "U = D Word", "U = D main:B.Word;"),
-    ("2", "U = D Empty", "U = D main:.Empty;"),
-    (
-        "01",
-        "U = D T Lost;U = D T Lost",
-        "4:12 E22 T is ambiguous;4:14 E21 Lost is not in scope;5:6 E23 U is defined twice;5:10 E23 D is defined twice;5:12 E22 T is ambiguous;5:14 E21 Lost is not in scope;",
-    ),
-    ("", "T = U;U = D U T D", "3:16 E21 D is not in scope;"),
-];
+fn part(row: &[u8], number: usize) -> &[u8] {
+    row.split(|b| *b == b'|').nth(number).unwrap_or(b"")
+}
+
+// The data types, the places of the contents that are imported, and what the check says.
+const ROWS: &[u8] = b"||
+T = C||T = C;
+T = C T U;U = D||T = C main:M.T main:M.U;U = D;
+U = D T Int|0|U = D main:A.T main:A.Int;
+T = C Lost||1:7 E21 Lost is not in scope;
+T  =  C   Lost||1:11 E21 Lost is not in scope;
+Type = Con Int Lost Int Gone|0|1:16 E21 Lost is not in scope;1:25 E21 Gone is not in scope;
+U = D Word T Int|01|1:12 E22 T is ambiguous;
+U = D Word Int|01|U = D main:B.Word main:A.Int;
+U = D T|00|U = D main:A.T;
+U = D T|001|1:7 E22 T is ambiguous;
+T = C;U = D T|0|2:13 E22 T is ambiguous;
+T = C;U = D Int|0|T = C;U = D main:A.Int;
+Int = C;Int = D;Int = E||2:9 E23 Int is defined twice;3:17 E23 Int is defined twice;
+T = Con;U = Con;Long = Con||2:13 E23 Con is defined twice;3:24 E23 Con is defined twice;
+T = C;T = D;U = E T||2:7 E23 T is defined twice;
+T = T T||T = T main:M.T;
+A = B;B = A||A = B;B = A;
+U = MkT;V = C MkT|0|2:15 E21 MkT is not in scope;
+U = D Word|1|U = D main:B.Word;
+U = D Word MkWord|1|1:12 E21 MkWord is not in scope;
+U = D Empty|2|U = D main:.Empty;
+U = D T Lost;U = D T Lost|01|1:7 E22 T is ambiguous;1:9 E21 Lost is not in scope;2:14 E23 U is defined twice;2:18 E23 D is defined twice;2:20 E22 T is ambiguous;2:22 E21 Lost is not in scope;
+T = U;U = D U T D||2:17 E21 D is not in scope;";
 
 #[test]
 fn modules_are_checked(rt: HostRuntime) -> Result<(), Fail> {
-    for (digits, lines, want) in &CASES {
-        let got = report(rt.alloc(), digits.as_bytes(), lines.as_bytes())?;
-        assert!(rt; got.as_slice() == want.as_bytes(), "at {lines}");
+    assert_eq!(rt; ROWS.split(|b| *b == b'\n').count(), 24);
+    for row in ROWS.split(|b| *b == b'\n') {
+        let got = report(rt.alloc(), part(row, 0), part(row, 1))?;
+        assert_eq!(rt; got.as_slice(), part(row, 2));
     }
     diagnostics_are_ordered();
     Ok(())

@@ -4,4 +4,4 @@ use Rattle.plain_scope.proofs.Steps.{seen_next}
 use Rattle.plain_scope.proofs.lines.check_twice.Goals as goal
 
 pub returns-clause-seen : goal.returns-clause-seen
-returns-clause-seen c = λ words had. seen_next (contains same_text c.args.seen.now) (contains same_text c.insert.new.self) words c.args.word.now c.in_ok-copy.field-0 c.in_ok-copy.ensures c.in_ok-added.ensures.updates.0 had
+returns-clause-seen c = λ words had. seen_next (contains same_text c.args.seen.now) (contains same_text c.insert.new.self) words c.args.word.now.text c.in_ok-copy.field-0 c.in_ok-copy.ensures c.in_ok-added.ensures.updates.0 had
