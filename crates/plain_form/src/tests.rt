@@ -1,0 +1,1 @@
+//! Sources and paths with what they are, counted by hand.
