@@ -1,6 +1,7 @@
 //! The form of the sources that are built.
 ghost use Rattle.std.specs.Prelude.{◌≡◌, IfOk};
 ghost use Rattle.plain_form.specs.Form as spec;
+ghost use Rattle.plain_form.specs.Form.{FormIsSpelled, WordsRise};
 
 use crate::step::{ended, start, step};
 use hs_syntax::token::Token;
@@ -58,3 +59,13 @@ pub fn read_form(alloc: Global, name: &[u8], tokens: &[Token]) -> Result<Reading
     }
     Ok(ended(state, last))
 }
+
+/// Tokens are of the form exactly where they spell a module.
+pub fn form_is_its_spelling()
+    ensures { FormIsSpelled }
+{}
+
+/// The names of a module stand in the order of their places where the lexemes do.
+pub fn words_rise_with_lexemes()
+    ensures { WordsRise }
+{}
