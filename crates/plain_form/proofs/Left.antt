@@ -125,3 +125,52 @@ datas_next put v t ts w h l = (l.0 ∷ l.2.0, (l.1, l.2.1), (h, l.2.2), l.2.3, l
 pub datas_split : (put : Bool) (v : Written) (t : Token) (ts : List Token) (w : Written) → DatasLeft put v [] (t ∷ ts) w → (Fits (Close put) t × AtEnd v ts w) ⊎ (Fits Next t × NextDataLeft put v ts w)
 datas_split put v t ts w ([], ad, f, i, j) = inl (f.0, (no_tokens ts f.1, i, j ∙ append-nil v.datas))
 datas_split put v t ts w (d ∷ ds, ad, f, i, j) = inr (f.0, (d, ad.0, (ds, ad.1, f.1, i, j ∙ sym (snoc v.datas d ds))))
+
+pub imports_end : (x : List ℕ) (put : Bool) (v : Written) (t : Token) (ts : List Token) (w : Written) → Fits (Close put) t → AtEnd v ts w → ImportsLeft x put v [] (t ∷ ts) w
+imports_end x put v t ts w h l = ([], [], tt, tt, (h, fit_none ts l.0), l.1 ∙ sym (append-nil v.imports), l.2 ∙ sym (append-nil v.datas))
+
+pub imports_next : (x : List ℕ) (put : Bool) (v : Written) (t : Token) (ts : List Token) (w : Written) → Fits Next t → NextItemLeft x put v ts w → ImportsLeft x put v [] (t ∷ ts) w
+imports_next x put v t ts w h (inl (y, iy, (ys, ds, ay, ad, f, i, j))) = (y ∷ ys, ds, (iy, ay), ad, (h, f), i ∙ snoc v.imports y ys, j)
+imports_next x put v t ts w h (inr (d, id, (ds, ad, f, i, j))) = ([], d ∷ ds, tt, (id, ad), (h, f), i ∙ sym (append-nil v.imports), j ∙ snoc v.datas d ds)
+
+pub imports_split : (x : List ℕ) (put : Bool) (v : Written) (t : Token) (ts : List Token) (w : Written) → ImportsLeft x put v [] (t ∷ ts) w → (Fits (Close put) t × AtEnd v ts w) ⊎ (Fits Next t × NextItemLeft x put v ts w)
+imports_split x put v t ts w ([], [], ay, ad, f, i, j) = inl (f.0, (no_tokens ts f.1, i ∙ append-nil v.imports, j ∙ append-nil v.datas))
+imports_split x put v t ts w ([], d ∷ ds, ay, ad, f, i, j) = inr (f.0, inr (d, ad.0, (ds, ad.1, f.1, i ∙ append-nil v.imports, j ∙ sym (snoc v.datas d ds))))
+imports_split x put v t ts w (y ∷ ys, ds, ay, ad, f, i, j) = inr (f.0, inl (y, ay.0, (ys, ds, ay.1, ad, f.1, i ∙ sym (snoc v.imports y ys), j)))
+
+pub body_end : (x : List ℕ) (put : Bool) (v : Written) (t : Token) (ts : List Token) (w : Written) → Fits (Close put) t → AtEnd v ts w → BodyLeft x put v (t ∷ ts) w
+body_end x put v t ts w h l = ([], [], tt, tt, (h, fit_none ts l.0), l.1 ∙ sym (append-nil v.imports), l.2 ∙ sym (append-nil v.datas))
+
+pub body_item : (x : List ℕ) (put : Bool) (v : Written) (ts : List Token) (w : Written) → NextItemLeft x put v ts w → BodyLeft x put v ts w
+body_item x put v ts w (inl (y, iy, (ys, ds, ay, ad, f, i, j))) = (y ∷ ys, ds, (iy, ay), ad, f, i ∙ snoc v.imports y ys, j)
+body_item x put v ts w (inr (d, id, (ds, ad, f, i, j))) = ([], d ∷ ds, tt, (id, ad), f, i ∙ sym (append-nil v.imports), j ∙ snoc v.datas d ds)
+
+pub body_split : (x : List ℕ) (put : Bool) (v : Written) (t : Token) (ts : List Token) (w : Written) → BodyLeft x put v (t ∷ ts) w → (Fits (Close put) t × AtEnd v ts w) ⊎ NextItemLeft x put v (t ∷ ts) w
+body_split x put v t ts w ([], [], ay, ad, f, i, j) = inl (f.0, (no_tokens ts f.1, i ∙ append-nil v.imports, j ∙ append-nil v.datas))
+body_split x put v t ts w ([], d ∷ ds, ay, ad, f, i, j) = inr (inr (d, ad.0, (ds, ad.1, f, i ∙ append-nil v.imports, j ∙ sym (snoc v.datas d ds))))
+body_split x put v t ts w (y ∷ ys, ds, ay, ad, f, i, j) = inr (inl (y, ay.0, (ys, ds, ay.1, ad, f, i ∙ sym (snoc v.imports y ys), j)))
+
+-- No state but the last has nothing left.
+
+pub some_left : (x : List ℕ) (put : Bool) (v : Written) (g : Stage) (w : Written) → Left x put v g [] w → (g ≡ stage.End) × (w.imports ≡ v.imports) × (w.datas ≡ v.datas)
+some_left x put v stage.Start w l = absurd l.5
+some_left x put v stage.Name w l = absurd l.5
+some_left x put v stage.Where w l = absurd l.5
+some_left x put v stage.Open w l = absurd l.5
+some_left x put v stage.Body w ([], [], ay, ad, f, i, j) = absurd f
+some_left x put v stage.Body w ([], d ∷ ds, ay, ad, f, i, j) = absurd f
+some_left x put v stage.Body w (y ∷ ys, ds, ay, ad, f, i, j) = absurd f
+some_left x put v stage.Import w l = absurd l.2.4
+some_left x put v stage.Imported w ([], [], ay, ad, f, i, j) = absurd f
+some_left x put v stage.Imported w ([], d ∷ ds, ay, ad, f, i, j) = absurd f
+some_left x put v stage.Imported w (y ∷ ys, ds, ay, ad, f, i, j) = absurd f
+some_left x put v stage.NextItem w (inl l) = absurd l.2.4
+some_left x put v stage.NextItem w (inr l) = absurd l.2.2
+some_left x put v stage.NextData w l = absurd l.2.2
+some_left x put v stage.DataType w l = absurd l.2.2
+some_left x put v (stage.DataEquals ty) w l = absurd l.4.2
+some_left x put v (stage.DataCon ty) w l = absurd l.4.2
+some_left x put v (stage.Fields d) w ([], ac, ([], ad, f, i, j)) = absurd f
+some_left x put v (stage.Fields d) w ([], ac, (e ∷ es, ad, f, i, j)) = absurd f
+some_left x put v (stage.Fields d) w (y ∷ ys, ac, l) = absurd l.2
+some_left x put v stage.End w l = (refl, l.1, l.2)
