@@ -1,6 +1,6 @@
 use Rattle.plain_form.proofs.Spelled.{form_spelled, form_read}
-use Rattle.plain_form.proofs.Fits.{next_no_name}
+use Rattle.plain_form.proofs.Runs.{fates, stick_leaves, run_stuck, run_read}
 use Rattle.plain_form.proofs.form.form_is_its_spelling.Goals as goal
 
 pub returns : goal.returns
-returns c = ?
+returns c x ts h = ((λ w. (form_spelled x ts w, form_read x ts w)), ?)
