@@ -20,7 +20,7 @@ abbrev pub run : List ℕ → State → List Token → Option State
 run x s [] = Some s
 run x s (t ∷ ts) = carried (step x s t) (λ n. run x n ts)
 
-carried_some : (o : Option State) (f : State → Option State) (k : State) → carried o f ≡ Some k → (n : State) × (o ≡ Some n) × (f n ≡ Some k)
+pub carried_some : (o : Option State) (f : State → Option State) (k : State) → carried o f ≡ Some k → (n : State) × (o ≡ Some n) × (f n ≡ Some k)
 carried_some (Some n) f k h = (n, refl, h)
 carried_some None f k h = absurd (cc)
 

@@ -12,11 +12,11 @@ use Rattle.plain_form.specs.Form.{Mark, Fixed, Placed, Open, Next, Close, Fits, 
 use Rattle.plain_form.proofs.Fits.{left_of, right_of, fixed_of, placed_of, open_of, close_of, next_of}
 use Rattle.plain_form.proofs.Left.{Left, LeftOf, NextItemLeft, NextDataLeft, DatasLeft, AtEnd, HeadLeft, add_data, item_of, datas_more, imports_more, head_more, datas_end, datas_next, imports_end, imports_next, body_end, body_item}
 
-on_some : (b : Bool) (s n : State) → on b s ≡ Some n → (b ≡ true) × (s ≡ n)
+pub on_some : (b : Bool) (s n : State) → on b s ≡ Some n → (b ≡ true) × (s ≡ n)
 on_some true s n h = (refl, cc)
 on_some false s n h = absurd (cc)
 
-pick : (b : Bool) (s n : State) (o : Option State) → cond b (Some s) o ≡ Some n → ((b ≡ true) × (s ≡ n)) ⊎ (o ≡ Some n)
+pub pick : (b : Bool) (s n : State) (o : Option State) → cond b (Some s) o ≡ Some n → ((b ≡ true) × (s ≡ n)) ⊎ (o ≡ Some n)
 pick true s n o h = inl (refl, cc)
 pick false s n o h = inr h
 
@@ -29,7 +29,7 @@ sound_text : (x : List ℕ) (s n : State) (g : Stage) (text : List ℕ) (t : Tok
 sound_text x s n g text t ts w h l =
     let e : (is_text text t ≡ true) × (at_stage s g ≡ n) = on_some (is_text text t) (at_stage s g) n h in (fixed_of text t e.0, moved x (at_stage s g) n ts w e.1 l)
 
-opened_to : (s n : State) (o : Option Bool) → at_open s o ≡ Some n → (put : Bool) × (o ≡ Some put) × (record { stage = stage.Body; put = put; written = s.written } ≡ n)
+pub opened_to : (s n : State) (o : Option Bool) → at_open s o ≡ Some n → (put : Bool) × (o ≡ Some put) × (record { stage = stage.Body; put = put; written = s.written } ≡ n)
 opened_to s n (Some put) h = (put, refl, cc)
 opened_to s n None h = absurd (cc)
 
