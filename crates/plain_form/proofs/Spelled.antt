@@ -42,7 +42,7 @@ read_left x (t ∷ ts) s p w l =
     let e : (n : State) × (step x s t ≡ Some n) × LeftOf x n ts w = complete x s t ts w l in
     ap (λ o. go t o (λ n. read_from x n t.at ts)) e.1 ∙ read_left x ts e.0 t.at w e.2
 
-parted-body : (put : Bool) (js : List (List Mark)) → parted js ++ Close put ∷ [] ≡ body put js
+pub parted-body : (put : Bool) (js : List (List Mark)) → parted js ++ Close put ∷ [] ≡ body put js
 parted-body put [] = refl
 parted-body put (i ∷ []) = refl
 parted-body put (i ∷ j ∷ js) = append_assoc i (Next ∷ parted (j ∷ js)) (Close put ∷ []) ∙ ap (λ ms. i ++ Next ∷ ms) (parted-body put (j ∷ js))
