@@ -1,5 +1,5 @@
 -- From each state but a dead one some tokens lead to the end of a module.
-use Rattle.std.proofs.Common.{◌≡◌, ℕ, Bool, true, false, ◌&&◌, List, [], ◌∷◌, Some, None, Option, refl, sym, ap, ◌∙◌, codes}
+use Rattle.std.proofs.Common.{◌≡◌, ℕ, Bool, true, false, List, [], ◌∷◌, Some, None, Option, refl, ap, ◌∙◌, codes}
 use Rattle.mk_base.specs.declared.place.Pos.{Pos}
 use Rattle.hs_syntax.specs.declared.token.Token.{Token}
 use Rattle.hs_syntax.specs.declared.token.TokenKind.TheVariants.{Special}
@@ -13,7 +13,7 @@ use Rattle.plain_form.specs.declared.state.Stage.{Stage}
 use Rattle.plain_form.specs.declared.state.Stage.TheVariants as stage
 use Rattle.plain_form.specs.declared.state.State.{State}
 use Rattle.plain_form.specs.Words.{is_con, same_text}
-use Rattle.plain_form.specs.Form.{first_place, at_stage, with_import, word_of, on, go, read_from, is_import}
+use Rattle.plain_form.specs.Form.{first_place, with_import, word_of, on, go, read_from, is_import}
 use Rattle.plain_form.proofs.Fits.{same_is}
 use Rattle.plain_form.proofs.Least.{below}
 

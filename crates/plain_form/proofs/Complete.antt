@@ -1,5 +1,5 @@
 -- What is left before a token is left behind its step.
-use Rattle.std.proofs.Common.{◌≡◌, ◌⊎◌, inl, inr, ℕ, Bool, true, false, cond, ◌&&◌, List, [], ◌∷◌, ◌++◌, map, Some, None, Option, refl, sym, ap, subst, ◌∙◌, codes, append_assoc, append-nil}
+use Rattle.std.proofs.Common.{◌≡◌, inl, inr, ℕ, true, false, cond, List, [], ◌∷◌, ◌++◌, map, Some, Option, refl, sym, ap, subst, ◌∙◌, codes, append_assoc, append-nil}
 use Rattle.hs_syntax.specs.declared.token.Token.{Token}
 use Rattle.plain_form.specs.declared.form.Word.{Word}
 use Rattle.plain_form.specs.declared.form.DataItem.{DataItem}
@@ -8,9 +8,9 @@ use Rattle.plain_form.specs.declared.state.Stage.{Stage}
 use Rattle.plain_form.specs.declared.state.Stage.TheVariants as stage
 use Rattle.plain_form.specs.declared.state.State.{State}
 use Rattle.plain_form.specs.Words.{is_con}
-use Rattle.plain_form.specs.Form.{Mark, Fixed, Placed, Open, Next, Close, Fits, AllFit, IsImport, IsData, is_text, is_name, is_import, is_closing, is_next, opened, is_close, word_of, at_stage, with_import, with_data, with_field, on, at_open, at_item, at_data, behind_item, behind_data, step_at}
+use Rattle.plain_form.specs.Form.{Mark, Fixed, Placed, Fits, is_text, is_name, is_import, opened, is_close, word_of, at_stage, with_import, with_data, with_field, on, at_open, at_item, at_data, behind_item, behind_data, step_at}
 use Rattle.plain_form.proofs.Fits.{both_of, fixed_is, fixed_not, fixed_no_close, name_is, open_is, close_is, next_is, close_no_next, close_no_name, next_no_name}
-use Rattle.plain_form.proofs.Left.{Left, LeftOf, NextItemLeft, NextDataLeft, DatasLeft, BodyLeft, AtEnd, HeadLeft, ImportsLeft, add_data, add_import, item_of, body, items_of, AreImports, AreDatas, AreCons, datas_less, imports_less, head_less, datas_split, imports_split, body_split}
+use Rattle.plain_form.proofs.Left.{Left, LeftOf, NextItemLeft, NextDataLeft, DatasLeft, BodyLeft, HeadLeft, ImportsLeft, add_data, add_import, item_of, datas_less, imports_less, head_less, datas_split, imports_split, body_split}
 
 -- the step leads to a state behind which these tokens are what is left
 abbrev Leads : List ℕ → Option State → List Token → Written → Type 0

@@ -1,15 +1,14 @@
 -- In the module of the least name the reading stands behind an import's `import` at the head alone.
-use Rattle.std.proofs.Common.{◌≡◌, ◌⊎◌, inl, inr, ℕ, Bool, true, false, cond, ◌&&◌, List, [], ◌∷◌, Some, None, Option, refl, sym, ap, subst, ◌∙◌, codes}
+use Rattle.std.proofs.Common.{◌≡◌, inl, inr, ℕ, Bool, true, ◌&&◌, List, [], ◌∷◌, Some, None, sym, ap, subst, ◌∙◌, codes}
 use Rattle.hs_syntax.specs.declared.token.Token.{Token}
 use Rattle.plain_form.specs.declared.form.DataItem.{DataItem}
 use Rattle.plain_form.specs.declared.state.Stage.{Stage}
 use Rattle.plain_form.specs.declared.state.Stage.TheVariants as stage
 use Rattle.plain_form.specs.declared.state.State.{State}
-use Rattle.plain_form.specs.Words.{is_con}
 use Rattle.plain_form.specs.Form.{Mark, Fixed, Open, Fits, AllFit, IsHeadWithImport, is_text, is_name, is_import, is_next, is_close, word_of, opened, on, at_stage, at_open, at_item, at_data, with_import, with_data, with_field, behind_data, step_at, step, start}
 use Rattle.plain_form.proofs.Fits.{left_of, right_of, fixed_of, open_of, placed_of}
 use Rattle.plain_form.proofs.Sound.{on_some, pick, opened_to}
-use Rattle.plain_form.proofs.Runs.{run, carried, carried_some}
+use Rattle.plain_form.proofs.Runs.{run, carried_some}
 use Rattle.plain_form.proofs.Least.{none_below}
 
 abbrev import_marks : List Mark

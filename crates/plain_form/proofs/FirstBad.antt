@@ -10,7 +10,7 @@ use Rattle.plain_form.specs.declared.state.Stage.{Stage}
 use Rattle.plain_form.specs.declared.state.Stage.TheVariants as stage
 use Rattle.plain_form.specs.declared.state.State.{State}
 use Rattle.plain_form.specs.Words.{is_con, same_text}
-use Rattle.plain_form.specs.Form.{Mark, Fixed, Open, Fits, AllFit, IsForm, Begins, IsHeadWithImport, IsFront, IsFirstBad, FormIsSpelled, is_text, is_close, opened, on, at_stage, at_open, at_item, at_data, step, ended, read_from, read_form, start, first_place, last_place}
+use Rattle.plain_form.specs.Form.{Mark, Fixed, Open, Fits, AllFit, IsForm, Begins, IsHeadWithImport, IsFront, IsFirstBad, FormIsSpelled, is_text, on, at_stage, at_open, at_item, at_data, step, ended, read_from, read_form, start, first_place, last_place}
 use Rattle.plain_form.proofs.Fits.{same_of, same_is, fixed_is, fixed_no_close, open_is}
 use Rattle.plain_form.proofs.Spelled.{form_spelled, form_read}
 use Rattle.plain_form.proofs.Runs.{run, carried, Sticks, Stops, run_read, run_stuck, fates, stick_leaves, ended_either}

@@ -1,11 +1,11 @@
 -- What the tests of a token say of it, and which tests fail where one holds.
-use Rattle.std.proofs.Common.{◌≡◌, ◌⊎◌, inl, inr, ℕ, Bool, true, false, cond, ◌&&◌, List, [], ◌∷◌, Some, None, Option, refl, sym, ap, ◌∙◌, codes}
+use Rattle.std.proofs.Common.{◌≡◌, ◌⊎◌, inl, inr, ℕ, Bool, true, false, cond, ◌&&◌, List, Some, None, Option, refl, ap, ◌∙◌, codes}
 use Rattle.std.proofs.lemmas.Slice.Eq.{bytes_eq-Decides}
 use Rattle.hs_syntax.specs.declared.token.Token.{Token}
 use Rattle.hs_syntax.specs.declared.token.PutSign.{PutSign}
 use Rattle.hs_syntax.specs.declared.token.PutSign.TheVariants as sign
 use Rattle.plain_form.specs.Words.{is_con, same_text}
-use Rattle.plain_form.specs.Form.{Mark, Fixed, Placed, Open, Next, Close, Fits, is_lexeme, is_text, is_word, is_name, opened, is_closing, is_next, word_of}
+use Rattle.plain_form.specs.Form.{Fixed, Placed, Open, Next, Close, Fits, is_lexeme, is_text, is_word, is_name, opened, is_closing, is_next, word_of}
 
 pub same_of : (a b : List ℕ) → same_text a b ≡ true → a ≡ b
 same_of a b h = (bytes_eq-Decides a b).0 h

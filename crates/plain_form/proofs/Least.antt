@@ -1,14 +1,13 @@
 -- The least name of a module is A.
-use Rattle.std.proofs.Common.{◌≡◌, ◌⊎◌, inl, inr, ℕ, ◌<◌, ◌≤◌, Bool, true, false, cond, ◌&&◌, nat_le, List, [], ◌∷◌, refl, sym, ap, subst, ◌∙◌, codes, arith}
+use Rattle.std.proofs.Common.{◌≡◌, inl, inr, ℕ, ◌<◌, ◌≤◌, true, false, nat_le, List, [], ◌∷◌, refl, sym, ap, ◌∙◌, codes, arith}
 use Rattle.std.specs.Ordering.{nat_cmp, is_lt, ordering_then}
 use Rattle.std.specs.Cmp.Lexicographic.{slice_cmp}
 use Rattle.std.specs.Cmp.{nat_cmp_is}
-use Rattle.std.specs.declared.cmp.Ordering.{Ordering}
 use Rattle.std.specs.declared.cmp.Ordering.TheVariants.{Less, Equal, Greater}
 use Rattle.std.proofs.lemmas.Bool.{cases_lt, leb-true}
 use Rattle.std.specs.List.{list_all}
 use Rattle.mk_base.specs.Order.{text_cmp}
-use Rattle.plain_form.specs.Words.{is_con, is_capital, is_letter_or_digit, same_text}
+use Rattle.plain_form.specs.Words.{is_con, is_capital, is_letter_or_digit}
 use Rattle.plain_form.specs.Form.{is_import}
 use Rattle.plain_form.proofs.Fits.{left_of, right_of}
 

@@ -1,5 +1,5 @@
 -- What a step leads to is what was left before it.
-use Rattle.std.proofs.Common.{◌≡◌, ◌⊎◌, inl, inr, ℕ, Bool, true, false, cond, ◌&&◌, List, [], ◌∷◌, ◌++◌, map, Some, None, Option, refl, sym, ap, subst, ◌∙◌, codes, append_assoc, append-nil}
+use Rattle.std.proofs.Common.{◌≡◌, ◌⊎◌, inl, inr, ℕ, Bool, true, false, cond, ◌&&◌, List, [], ◌∷◌, ◌++◌, map, Some, None, Option, refl, sym, subst, codes, append_assoc, append-nil}
 use Rattle.hs_syntax.specs.declared.token.Token.{Token}
 use Rattle.plain_form.specs.declared.form.Word.{Word}
 use Rattle.plain_form.specs.declared.form.DataItem.{DataItem}
@@ -8,7 +8,7 @@ use Rattle.plain_form.specs.declared.state.Stage.{Stage}
 use Rattle.plain_form.specs.declared.state.Stage.TheVariants as stage
 use Rattle.plain_form.specs.declared.state.State.{State}
 use Rattle.plain_form.specs.Words.{is_con}
-use Rattle.plain_form.specs.Form.{Mark, Fixed, Placed, Open, Next, Close, Fits, is_text, is_name, is_import, is_closing, is_next, opened, is_close, word_of, at_stage, with_import, with_data, with_field, on, at_open, at_item, at_data, behind_item, behind_data, step_at}
+use Rattle.plain_form.specs.Form.{Fixed, Placed, Close, Fits, is_text, is_name, is_import, is_next, opened, is_close, word_of, at_stage, with_import, with_data, with_field, on, at_open, at_item, at_data, behind_item, behind_data, step_at}
 use Rattle.plain_form.proofs.Fits.{left_of, right_of, fixed_of, placed_of, open_of, close_of, next_of}
 use Rattle.plain_form.proofs.Left.{Left, LeftOf, NextItemLeft, NextDataLeft, DatasLeft, AtEnd, HeadLeft, add_data, item_of, datas_more, imports_more, head_more, datas_end, datas_next, imports_end, imports_next, body_end, body_item}
 

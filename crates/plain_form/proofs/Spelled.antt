@@ -1,17 +1,17 @@
 -- Tokens are read as a module exactly where they spell it.
-use Rattle.std.proofs.Common.{◌≡◌, ◌⊎◌, ◌↔◌, inl, inr, ℕ, Bool, List, [], ◌∷◌, ◌++◌, map, Some, None, Option, refl, sym, ap, subst, ◌∙◌, codes, append_assoc}
+use Rattle.std.proofs.Common.{◌≡◌, ℕ, Bool, List, [], ◌∷◌, ◌++◌, Some, None, Option, refl, sym, ap, subst, ◌∙◌, codes, append_assoc}
 use Rattle.mk_base.specs.declared.place.Pos.{Pos}
 use Rattle.hs_syntax.specs.declared.token.Token.{Token}
 use Rattle.plain_form.specs.declared.form.Word.{Word}
 use Rattle.plain_form.specs.declared.form.DataItem.{DataItem}
 use Rattle.plain_form.specs.declared.form.Written.{Written}
 use Rattle.plain_form.specs.declared.form.Reading.{Reading}
-use Rattle.plain_form.specs.declared.form.Reading.TheVariants.{Form, Leaves}
+use Rattle.plain_form.specs.declared.form.Reading.TheVariants.{Form}
 use Rattle.plain_form.specs.declared.state.Stage.{Stage}
 use Rattle.plain_form.specs.declared.state.Stage.TheVariants as stage
 use Rattle.plain_form.specs.declared.state.State.{State}
-use Rattle.plain_form.specs.Form.{Mark, Fixed, Open, Next, Close, AllFit, IsForm, parted, items, marks, go, ended, read_from, read_form, start, first_place, step}
-use Rattle.plain_form.proofs.Left.{LeftOf, Left, HeadLeft, AreImports, AreDatas, body, items_of, some_left}
+use Rattle.plain_form.specs.Form.{Mark, Fixed, Open, Next, Close, AllFit, IsForm, parted, items, go, ended, read_from, read_form, start, first_place, step}
+use Rattle.plain_form.proofs.Left.{LeftOf, Left, AreImports, AreDatas, body, items_of, some_left}
 use Rattle.plain_form.proofs.Sound.{sound}
 use Rattle.plain_form.proofs.Complete.{complete}
 

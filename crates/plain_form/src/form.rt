@@ -60,7 +60,7 @@ pub fn read_form(alloc: Global, name: &[u8], tokens: &[Token]) -> Result<Reading
     Ok(ended(state, last))
 }
 
-/// Tokens are of the form exactly where they spell a module.
+/// Tokens are of the form exactly where they spell a module, and leave it exactly at the first bad one.
 pub fn form_is_its_spelling()
     ensures { FormIsSpelled }
 {}

@@ -3,7 +3,7 @@
 //! A row is a module's name, its tokens and what is read of them, with tildes between; a blank is between two tokens.
 //! A brace or a semicolon with `+` behind it is one that layout put. What is read is the place of the token that leaves
 //! the form, or each import with a comma and then each data type with a semicolon.
-use crate::form::{Reading, Word, read_form};
+use crate::form::{Reading, Word, form_is_its_spelling, read_form, words_rise_with_lexemes};
 use crate::paths::node_of;
 use hs_syntax::token::{PutSign, Token, TokenKind};
 use mk_base::list::List;
@@ -25,7 +25,7 @@ AB~module AB where {+ import AA ; import A9 ;+ import A }+~AA,A9,A,|";
 const LEAVES: &str = "
 A~Module A where {+ }+~1:1
 A~module B where {+ }+~1:8
-A~module A do {+ }+~1:10
+A~module A where {+ import B }+~1:26
 A~module A where }+~1:16
 A~module A where {+ }~1:19
 A~module A where { }+~1:18
@@ -167,6 +167,8 @@ fn modules_of_the_form(rt: HostRuntime) -> Result<(), Fail> {
             assert!(rt; is_read(rt.alloc(), row)?, "{row:?}");
         }
     }
+    form_is_its_spelling();
+    words_rise_with_lexemes();
     Ok(())
 }
 
