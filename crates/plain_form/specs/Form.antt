@@ -1,5 +1,5 @@
 -- The form of the sources that are built, over tokens: a module's head, its imports and its data types.
-use Rattle.std.specs.Prelude.{◌≡◌, ◌⊎◌, ◌↔◌, ℕ, suc, ◌<◌, Bool, true, false, ◌&&◌, not, List, [], ◌∷◌, ◌++◌, map, length, take, slice_get, Some, None, codes, if◌then◌else◌}
+use Rattle.std.specs.Prelude.{◌≡◌, ◌⊎◌, ◌↔◌, ℕ, suc, ◌<◌, Bool, true, false, ◌&&◌, not, List, [], ◌∷◌, ◌++◌, map, take, slice_get, Some, None, codes, if◌then◌else◌}
 use Rattle.std.specs.declared.option.Option.{Option}
 use Rattle.std.specs.List.{flat_map, AllByRecursion}
 use Rattle.std.specs.Ordering.{is_lt}
@@ -194,8 +194,16 @@ abbrev pub IsForm : List ℕ → List Token → Written → Type 0
 IsForm x ts w = AllByRecursion (IsImport x) w.imports × AllByRecursion IsData w.datas × ((put : Bool) × AllFit (marks x put w) ts)
 
 -- these tokens begin some module of the form
+abbrev pub Begins : List ℕ → List Token → Type 0
+Begins x ts = (rest : List Token) × (w : Written) × IsForm x (ts ++ rest) w
+
+-- `module X where {` and then `import`
+abbrev pub IsHeadWithImport : List ℕ → List Token → Type 0
+IsHeadWithImport x ts = (put : Bool) × AllFit (Fixed (codes "module") ∷ Fixed x ∷ Fixed (codes "where") ∷ Open put ∷ Fixed (codes "import") ∷ []) ts
+
+-- These tokens begin some module of the form. Module `A` has no lesser one to import: there `import` may stand behind the head too, and what leaves the form is the name behind it.
 abbrev pub IsFront : List ℕ → List Token → Type 0
-IsFront x ts = (rest : List Token) × (w : Written) × IsForm x (ts ++ rest) w
+IsFront x ts = Begins x ts ⊎ ((x ≡ codes "A") × IsHeadWithImport x ts)
 
 abbrev pub last_place : Pos → List Token → Pos
 last_place p [] = p

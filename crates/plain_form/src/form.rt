@@ -1,7 +1,9 @@
 //! The form of the sources that are built.
 ghost use Rattle.std.specs.Prelude.{◌≡◌, IfOk};
 ghost use Rattle.plain_form.specs.Form as spec;
+ghost use Rattle.plain_form.specs.Form.{FormIsSpelled, WordsRise};
 
+use crate::step::{ended, start, step};
 use hs_syntax::token::Token;
 use mk_base::list::List;
 use mk_base::memory::NoMemory;
@@ -46,5 +48,24 @@ pub enum Reading {
 pub fn read_form(alloc: Global, name: &[u8], tokens: &[Token]) -> Result<Reading, NoMemory>
     ensures { IfOk result (λ r. r ≡ spec.read_form name.now tokens.now) }
 {
-    Err(NoMemory)
+    let mut state = start(alloc);
+    let mut last = Pos { line: 1, col: 1 };
+    for token in tokens {
+        match step(alloc, name, state, token)? {
+            Some(next) => state = next,
+            None => return Ok(Reading::Leaves(token.at)),
+        }
+        last = token.at;
+    }
+    Ok(ended(state, last))
 }
+
+/// Tokens are of the form exactly where they spell a module, and leave it exactly at the first bad one.
+pub fn form_is_its_spelling()
+    ensures { FormIsSpelled }
+{}
+
+/// The names of a module stand in the order of their places where the lexemes do.
+pub fn words_rise_with_lexemes()
+    ensures { WordsRise }
+{}

@@ -5,4 +5,8 @@ mod cut;
 pub mod form;
 pub mod paths;
 mod state;
+mod step;
+#[cfg(test)]
+mod tests;
+mod token;
 mod word;
