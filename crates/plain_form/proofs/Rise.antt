@@ -8,7 +8,8 @@ use Rattle.hs_syntax.specs.declared.token.PutSign.{PutSign}
 use Rattle.plain_form.specs.declared.form.Word.{Word}
 use Rattle.plain_form.specs.declared.form.DataItem.{DataItem}
 use Rattle.plain_form.specs.declared.form.Written.{Written}
-use Rattle.plain_form.specs.Form.{Mark, Fixed, Placed, Open, Next, Close, Fits, AllFit, IsForm, IsBefore, AreRising, WordsRise, data_marks, items, marks, words, places, written_at, lexeme_places}
+use Rattle.plain_form.specs.Form.{Mark, Fixed, Placed, Open, Next, Close, Fits, AllFit, IsForm, WordsRise, data_marks, items, marks, words, places, written_at, lexeme_places}
+use Rattle.hs_syntax.specs.Rising.{IsBefore, AreRising}
 use Rattle.plain_form.proofs.Left.{body, follow, items_of}
 use Rattle.plain_form.proofs.Spelled.{form_spelled, parted-body}
 

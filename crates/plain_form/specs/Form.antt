@@ -5,6 +5,7 @@ use Rattle.std.specs.List.{flat_map, AllByRecursion}
 use Rattle.std.specs.Ordering.{is_lt}
 use Rattle.mk_base.specs.Order.{text_cmp}
 use Rattle.mk_base.specs.declared.place.Pos.{Pos}
+use Rattle.hs_syntax.specs.Rising.{AreRising}
 use Rattle.hs_syntax.specs.declared.token.Token.{Token}
 use Rattle.hs_syntax.specs.declared.token.PutSign.{PutSign}
 use Rattle.hs_syntax.specs.declared.token.PutSign.TheVariants as sign
@@ -220,15 +221,6 @@ FormIsSpelled = (x : List ℕ) (ts : List Token) → is_con x ≡ true
     → ((w : Written) → (read_form x ts ≡ Form w) ↔ IsForm x ts w) × ((at : Pos) → (read_form x ts ≡ Leaves at) ↔ IsFirstBad x ts at)
 
 -- The places of words.
-
--- on an earlier line, or further left on the same line
-abbrev pub IsBefore : Pos → Pos → Type 0
-IsBefore p q = (p.line < q.line) ⊎ ((p.line ≡ q.line) × (p.col < q.col))
-
--- each place stands before all that are behind it
-abbrev pub AreRising : List Pos → Type 0
-AreRising [] = Unit {0}
-AreRising (p ∷ ps) = AllByRecursion (IsBefore p) ps × AreRising ps
 
 -- the names in a module's imports and data types, in their order
 abbrev pub words : Written → List Word

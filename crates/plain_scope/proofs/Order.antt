@@ -6,7 +6,8 @@ use Rattle.mk_base.specs.declared.place.Pos.{Pos}
 use Rattle.plain_form.specs.declared.form.Word.{Word}
 use Rattle.plain_form.specs.declared.form.DataItem.{DataItem}
 use Rattle.plain_form.specs.declared.form.Written.{Written}
-use Rattle.plain_form.specs.Form.{IsBefore, AreRising, places, words}
+use Rattle.hs_syntax.specs.Rising.{IsBefore, AreRising}
+use Rattle.plain_form.specs.Form.{places, words}
 use Rattle.plain_form.specs.Words.{same_text}
 use Rattle.plain_scope.specs.Ordered.{AreOrdered}
 use Rattle.plain_scope.specs.Scope.{Pair, Use, Missing, Ambiguous, Found, use_at, diag_at, use_diags, field_diags, twice_diags, data_diags, datas_diags}

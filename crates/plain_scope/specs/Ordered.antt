@@ -2,7 +2,8 @@
 use Rattle.std.specs.Prelude.{ℕ, List, map}
 use Rattle.mk_base.specs.declared.diag.Diag.{Diag}
 use Rattle.plain_form.specs.declared.form.Written.{Written}
-use Rattle.plain_form.specs.Form.{AreRising, places, words}
+use Rattle.hs_syntax.specs.Rising.{AreRising}
+use Rattle.plain_form.specs.Form.{places, words}
 use Rattle.plain_scope.specs.declared.scope.Content.{Content}
 use Rattle.plain_scope.specs.Scope.{scope_diags}
 
