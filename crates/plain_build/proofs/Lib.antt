@@ -5,6 +5,7 @@ pub mod First
 pub mod Firsts
 pub mod Fuel
 pub mod Least
+pub mod Lexing
 pub mod Loops
 pub mod Next
 pub mod Order

@@ -16,9 +16,7 @@ use Rattle.build_theory.specs.Build.{Sound, Failed, Blocked, Checked, Graph, Beh
 use Rattle.build_theory.specs.Laws.{IsIn}
 use Rattle.build_theory.proofs.Lists.{both_ways, look_yes, look_no, all_at, any_of, or_left}
 use Rattle.build_theory.proofs.Fold.{results_app}
-use Rattle.plain_form.specs.declared.form.Reading.{Reading}
-use Rattle.plain_form.specs.declared.form.Reading.TheVariants.{Form, Leaves}
-use Rattle.plain_form.specs.Form.{IsSmall}
+use Rattle.plain_form.specs.declared.form.Word.{Word}
 use Rattle.plain_scope.specs.declared.scope.Content.{Content}
 use Rattle.plain_scope.specs.declared.scope.Checked.{Checked as CheckedModule}
 use Rattle.plain_scope.specs.declared.scope.Checked.TheVariants as checked
@@ -26,7 +24,9 @@ use Rattle.plain_scope.specs.Scope.{check_of, contents_at, one_at}
 use Rattle.plain_face.specs.Interface.{IsSound, Fits}
 use Rattle.plain_build.specs.declared.places.Places.{Places}
 use Rattle.plain_build.specs.declared.done.Done.{Done}
-use Rattle.plain_build.specs.Plain.{PlainTree, plain, less_node, same_node, node_named, has_node, reading, imports_in, imports_of, imported, leads_to, reaches, missing_from, unless_none, outcome_of, check_reading}
+use Rattle.plain_build.specs.declared.reading.SourceReading.{SourceReading}
+use Rattle.plain_build.specs.declared.reading.SourceReading.TheVariants.{Whole, Refused}
+use Rattle.plain_build.specs.Plain.{PlainTree, plain, less_node, same_node, node_named, has_node, reading, imports_in, imports_of, imported, leads_to, reaches, missing_among, unless_none, outcome_of, check_reading}
 use Rattle.plain_build.specs.Result.{PlainJudged, IsResult, AreResults, is_checked}
 use Rattle.plain_build.specs.Steps.{lesser, ArePlaces, one_place, import_places, first_below}
 use Rattle.plain_build.specs.Kept.{empty_content, checked_how, result_of, HasSound}
@@ -102,7 +102,7 @@ all_last P [] x h k = (k, tt)
 all_last P (y ∷ xs) x h k = (h.0, all_last P xs x h.1 k)
 
 -- where a node without graph errors is blocked, and where it is checked
-step_graph : (t : PlainTree) (n : ℕ) (a : Node × List ℕ) (d : Diag) (ds : List Diag) → missing_from t 2 (imports_in (reading t.settings a.0 a.1)) ≡ d ∷ ds
+step_graph : (t : PlainTree) (n : ℕ) (a : Node × List ℕ) (d : Diag) (ds : List Diag) → missing_among t (imports_in (reading t.settings a.0 a.1)) ≡ d ∷ ds
     → judged_next t a n ≡ record { how = Graph; outcome = Failed (d ∷ ds) }
 unfolding judged_next
 step_graph t n a d ds e =
@@ -110,7 +110,7 @@ step_graph t n a d ds e =
     (option_map_or (λ n. record { how = Behind n; outcome = Blocked n }) (first_bad plain t a.0 (outcomes (judged_before t n)) (order plain t))
     (record { how = Checked NoInterface; outcome = of_check (check_reading t.settings.unit a.0 (reading t.settings a.0 a.1) (environment plain t a.0 (outcomes (judged_before t n)) t.sources)) }))) e
 
-step_free : (t : PlainTree) (n : ℕ) (a : Node × List ℕ) → missing_from t 2 (imports_in (reading t.settings a.0 a.1)) ≡ []
+step_free : (t : PlainTree) (n : ℕ) (a : Node × List ℕ) → missing_among t (imports_in (reading t.settings a.0 a.1)) ≡ []
     → judged_next t a n ≡ option_map_or (λ n. record { how = Behind n; outcome = Blocked n }) (first_bad plain t a.0 (outcomes (judged_before t n)) (order plain t))
     (record { how = Checked NoInterface; outcome = of_check (check_reading t.settings.unit a.0 (reading t.settings a.0 a.1) (environment plain t a.0 (outcomes (judged_before t n)) t.sources)) })
 unfolding judged_next
@@ -126,9 +126,9 @@ lesser_unwrap (Some p) n h =
     let no : nat_lt n p ≡ false = grind (arith, nat_tests) in
     ap (λ b. Some (cond b n p)) no
 
-check_is : (unit : List ℕ) (n : Node) (r : Reading) (env : List (Node × Content)) (cs : List Content) → imported env (imports_in r) ≡ cs → check_reading unit n r env ≡ outcome_of (checked_of unit n.module.text r cs)
-check_is unit n (Form w) env cs e = ap (λ xs. outcome_of (check_of unit n.module.text w xs)) e
-check_is unit n (Leaves k) env cs e = refl
+check_is : (unit : List ℕ) (n : Node) (r : SourceReading) (env : List (Node × Content)) (cs : List Content) → imported env (imports_in r) ≡ cs → check_reading unit n r env ≡ outcome_of (checked_of unit n.module.text r cs)
+check_is unit n (Whole w) env cs e = ap (λ xs. outcome_of (check_of unit n.module.text w xs)) e
+check_is unit n (Refused d) env cs e = refl
 
 sound_read : (unit m : List ℕ) (r : Reading) (cs : List Content) (c : Content) → checked.Sound c ≡ checked_of unit m r cs → length unit ≤ 64 → length m ≤ 1048576 → AllByRecursion (λ (c : Content). length c.module ≤ 1048576) cs → IsSmall r
     → IsSound unit c × Fits unit c × (c.module ≡ m)
@@ -150,7 +150,7 @@ short_at : (P : Content → Type 0) (cs : List Content) (places : List ℕ) → 
 short_at P cs [] h = tt
 short_at P cs (i ∷ is) h = all_both P (one_at (slice_get cs i)) (contents_at cs is) (short_one P (slice_get cs i) (λ c e. all_at P cs c (in_at cs i c e) h)) (short_at P cs is h)
 
-places_within : (places : Places) (contents : List Content) (env : List (Node × Content)) (ys : List (List ℕ)) → ((y : List ℕ) → IsIn y ys → IsOffered places contents env y)
+places_within : (places : Places) (contents : List Content) (env : List (Node × Content)) (ys : List Word) → ((y : Word) → IsIn y ys → IsOffered places contents env y.text)
     → AllByRecursion (λ i. i < length contents) (import_places places ys)
 places_within places contents env [] h = tt
 places_within places contents env (y ∷ ys) h =
@@ -162,7 +162,7 @@ module _ (t : PlainTree) (fine : IsStanding t) (places : Places) (right : ArePla
   abbrev before : Results
   before = judged_before t n
 
-  abbrev read : Reading
+  abbrev read : SourceReading
   read = reading t.settings a.0 a.1
 
   abbrev low : Option ℕ
@@ -212,7 +212,7 @@ module _ (t : PlainTree) (fine : IsStanding t) (places : Places) (right : ArePla
   IsNext new = IsDone t new (n + 1)
 
   -- a node with graph errors
-  pub next_graph : (new : Done) (ds : List Diag) (f : ℕ) → ds ≡ missing_from t 2 (imports_in read) → (ds ≡ [] → ⊥) → f ≡ unwrap_or low n → new.results ≡ old.results ++ result_of a.0 how.Graph ds None ∷ []
+  pub next_graph : (new : Done) (ds : List Diag) (f : ℕ) → ds ≡ missing_among t (imports_in read) → (ds ≡ [] → ⊥) → f ≡ unwrap_or low n → new.results ≡ old.results ++ result_of a.0 how.Graph ds None ∷ []
       → new.contents.items ≡ old.contents.items ++ empty_content ∷ [] → new.firsts.items ≡ old.firsts.items ++ Some f ∷ [] → IsNext new × (is_checked (judged_next t a n).how ≡ 0)
   next_graph new [] f e some first rs cs fs = absurd (some refl)
   next_graph new (d ∷ ds) f e some first rs cs fs =
@@ -229,7 +229,7 @@ module _ (t : PlainTree) (fine : IsStanding t) (places : Places) (right : ArePla
       (f.0, f.1, ap (place_node t.sources) e ∙ ap (λ o. option_map_or (λ (q : Node × List ℕ). Some q.0) o None) f.1)
 
   -- a blocked node
-  pub next_blocked : (new : Done) (p : ℕ) → missing_from t 2 (imports_in read) ≡ [] → low ≡ Some p → new.results ≡ old.results ++ result_of a.0 (how.Blocked (record { 0 = p })) [] None ∷ []
+  pub next_blocked : (new : Done) (p : ℕ) → missing_among t (imports_in read) ≡ [] → low ≡ Some p → new.results ≡ old.results ++ result_of a.0 (how.Blocked (record { 0 = p })) [] None ∷ []
       → new.contents.items ≡ old.contents.items ++ empty_content ∷ [] → new.firsts.items ≡ old.firsts.items ++ Some p ∷ [] → IsNext new × (is_checked (judged_next t a n).how ≡ 0)
   next_blocked new p e l rs cs fs =
       let k = place_known p l in
@@ -250,12 +250,12 @@ module _ (t : PlainTree) (fine : IsStanding t) (places : Places) (right : ArePla
   abbrev given : List Content
   given = contents_at old.contents.items (import_places places (imports_in read))
 
-  module _ (none : missing_from t 2 (imports_in read) ≡ []) (sound : low ≡ None) where
+  module _ (none : missing_among t (imports_in read) ≡ []) (sound : low ≡ None) where
     -- each import's content is kept, and it is what the language's check is given
-    all_offered : (y : List ℕ) → IsIn y (imports_in read) → IsOffered places old.contents.items offers y
+    all_offered : (y : Word) → IsIn y (imports_in read) → IsOffered places old.contents.items offers y.text
     all_offered y i =
-        let c : Node = node_named y false in
-        let p = import_there t places 2 (imports_in read) right none y i in
+        let c : Node = node_named y.text false in
+        let p = import_there t places (imports_in read) right none y i in
         let there : has_node t c ≡ true = node_at t.sources p.0 (c, p.1) p.3 in
         let own : List Node = cond a.0.boot [] (node_named a.0.module.text true ∷ []) in
         let lead : IsIn c (leads_to t a.0) = in_back_map own (imports_of t a.0) y (subst (IsIn y) (sym imports_are) i) in
