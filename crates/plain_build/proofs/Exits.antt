@@ -1,12 +1,11 @@
 -- The exits of a node's build, for what was read.
-use Rattle.std.proofs.Common.{◌≡◌, Bool, true, false, refl, ℕ, ◌+◌, ◌≤◌, ◌<◌, List, [], ◌∷◌, ◌++◌, length, sym, ap, ◌∙◌, subst, Some, None, arith}
+use Rattle.std.proofs.Common.{◌≡◌, Bool, true, false, refl, ℕ, ◌+◌, ◌<◌, List, [], ◌∷◌, ◌++◌, length, sym, ap, ◌∙◌, subst, Some, None, arith}
 use Rattle.std.specs.Prelude.{slice_get, unwrap_or, Result, Ok, Err, OnOk, IsTrue}
 use Rattle.std.specs.List.{AllByRecursion}
 use Rattle.mk_base.specs.declared.name.Node.{Node}
 use Rattle.mk_base.specs.declared.diag.Diag.{Diag}
 use Rattle.face_model.specs.declared.result.How.TheVariants as how
-use Rattle.build_theory.proofs.Lists.{all_at, differ}
-use Rattle.plain_build.proofs.First.{in_at}
+use Rattle.build_theory.proofs.Lists.{differ}
 use Rattle.plain_scope.specs.declared.scope.Content.{Content}
 use Rattle.plain_scope.specs.declared.scope.Checked.{Checked as CheckedModule}
 use Rattle.plain_scope.specs.declared.scope.Checked.TheVariants as checked
@@ -20,7 +19,7 @@ use Rattle.plain_build.specs.Plain.{PlainTree, reading, imports_in, missing_amon
 use Rattle.plain_build.specs.Result.{is_checked}
 use Rattle.plain_build.specs.Steps.{ArePlaces, import_places, first_below}
 use Rattle.plain_build.specs.Kept.{empty_content, checked_how, result_of, HasSound}
-use Rattle.plain_build.specs.Done.{IsStanding, IsSmallSource, IsDone, judged_next, checked_of, sorted_tree}
+use Rattle.plain_build.specs.Done.{IsStanding, IsDone, judged_next, checked_of, sorted_tree}
 use Rattle.plain_build.proofs.Next.{imports_within, has_interface, next_graph, next_blocked, next_sound, next_wrong}
 
 module _ (t : PlainTree) (fine : IsStanding t) (places : Places) (right : ArePlaces places t.sources) (n : ℕ) (a : Node × List ℕ) (here : slice_get t.sources n ≡ Some a) (old : Done) (done : IsDone t old n) where
@@ -88,10 +87,6 @@ on_three (Err e) P Q R S f p q r = tt
 pub given_is : (k : CheckedModule) (u v m l : List ℕ) (r : SourceReading) (cs ds : List Content) (is js : List ℕ) → k ≡ checked_of u m r (contents_at cs is) → u ≡ v → m ≡ l → cs ≡ ds → is ≡ js → k ≡ checked_of v l r (contents_at ds js)
 given_is k u v m l r cs ds is js e a b c d =
     e ∙ ap (λ x. checked_of x m r (contents_at cs is)) a ∙ ap (λ x. checked_of v x r (contents_at cs is)) b ∙ ap (λ x. checked_of v l r (contents_at x is)) c ∙ ap (λ x. checked_of v l r (contents_at ds x)) d
-
--- what the reading of a node is given and gives
-pub short_source : (t : PlainTree) → IsStanding t → (n : ℕ) (a : Node × List ℕ) → slice_get t.sources n ≡ Some a → length a.1 ≤ 1048576
-short_source t fine n a here = (all_at IsSmallSource t.sources a (in_at t.sources n a here) fine.small).1
 
 pub none_ticked : (k n : ℕ) → n ≡ 0 → k ≡ k + n
 none_ticked k n e = omega arith

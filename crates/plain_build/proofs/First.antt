@@ -93,8 +93,8 @@ in_behind : {X : Type 0} (xs ys : List X) (x : X) → IsIn x ys → IsIn x (xs +
 in_behind [] ys x i = i
 in_behind (z ∷ xs) ys x i = inr (in_behind xs ys x i)
 
-pub in_back_map : (xs : List Node) (ys : List (List ℕ)) (y : List ℕ) → IsIn y ys → IsIn (node_named y false) (xs ++ map (λ (y : Word). node_named y.text false) ys)
-in_back_map xs ys y i = in_behind xs (map (λ (y : Word). node_named y.text false) ys) (node_named y false) (in_map_of (λ y. node_named y false) ys y i)
+pub in_back_map : (xs : List Node) (ys : List Word) (y : Word) → IsIn y ys → IsIn (node_named y.text false) (xs ++ map (λ (y : Word). node_named y.text false) ys)
+in_back_map xs ys y i = in_behind xs (map (λ (y : Word). node_named y.text false) ys) (node_named y.text false) (in_map_of (λ (y : Word). node_named y.text false) ys y i)
 
 -- the results are those of the first sources
 abbrev pub Stands : Results → Sources → Type 0

@@ -1,3 +1,4 @@
+pub mod Bounds
 pub mod Down
 pub mod Env
 pub mod Exits
@@ -13,3 +14,4 @@ pub mod Paths
 pub mod Sorting
 pub mod Sound
 pub mod Trees
+pub mod Weights

@@ -14,9 +14,10 @@ use Rattle.face_model.specs.declared.result.How.TheVariants as how
 use Rattle.face_model.specs.declared.result.NodeResult.{NodeResult}
 use Rattle.build_theory.specs.Build.{Sound, Failed, Blocked, Checked, Graph, Behind, outcomes, is_sound, of_check, is_need, first_bad, environment, order, results}
 use Rattle.build_theory.specs.Laws.{IsIn}
-use Rattle.build_theory.proofs.Lists.{both_ways, look_yes, look_no, all_at, any_of, or_left}
+use Rattle.build_theory.proofs.Lists.{both_ways, look_yes, look_no, all_at, any_of, or_left, all_map}
 use Rattle.build_theory.proofs.Fold.{results_app}
 use Rattle.plain_form.specs.declared.form.Word.{Word}
+use Rattle.plain_form.specs.declared.form.DataItem.{DataItem}
 use Rattle.plain_scope.specs.declared.scope.Content.{Content}
 use Rattle.plain_scope.specs.declared.scope.Checked.{Checked as CheckedModule}
 use Rattle.plain_scope.specs.declared.scope.Checked.TheVariants as checked
@@ -38,6 +39,7 @@ use Rattle.plain_build.proofs.First.{Stands, in_at, standing, some_at, node_at, 
 use Rattle.plain_build.proofs.Firsts.{firsts_next, low_before, none_low, within}
 use Rattle.plain_build.proofs.Env.{env_at, IsOffered, imported_at, import_there, content_there}
 use Rattle.plain_build.proofs.Sound.{sound_fits}
+use Rattle.plain_build.proofs.Weights.{IsShortWord, IsShortItem, weight, AreSmall, reading_small}
 
 abbrev Results : Type 0
 Results = List (Node × PlainJudged)
@@ -130,13 +132,26 @@ check_is : (unit : List ℕ) (n : Node) (r : SourceReading) (env : List (Node ×
 check_is unit n (Whole w) env cs e = ap (λ xs. outcome_of (check_of unit n.module.text w xs)) e
 check_is unit n (Refused d) env cs e = refl
 
-sound_read : (unit m : List ℕ) (r : Reading) (cs : List Content) (c : Content) → checked.Sound c ≡ checked_of unit m r cs → length unit ≤ 64 → length m ≤ 1048576 → AllByRecursion (λ (c : Content). length c.module ≤ 1048576) cs → IsSmall r
-    → IsSound unit c × Fits unit c × (c.module ≡ m)
-sound_read unit m (Form w) cs c e u v h small = sound_fits unit m w cs c (sym e) u v h small
-sound_read unit m (Leaves k) cs c e u v h small = absurd (let h : ⊥ = cc in h)
+short_more : (b : ℕ) (d : DataItem) → b ≤ 1048576 → IsShortItem b d → IsShortItem 1048576 d
+short_more b d l h =
+    let x : length d.ty.text ≤ b = h.0 in
+    let y : length d.con.text ≤ b = h.1 in
+    (omega arith, omega arith, all_map (IsShortWord b) (IsShortWord 1048576) d.fields (λ f s. let z : length f.text ≤ b = s in omega arith) h.2)
+
+small_more : (b : ℕ) (r : SourceReading) → b ≤ 1048576 → AreSmall b b r → AreSmall 1048576 1048576 r
+small_more b (Refused d) l h = tt
+small_more b (Whole w) l h = let n : weight w ≤ b = h.0 in (omega arith, all_map (IsShortItem b) (IsShortItem 1048576) w.datas (λ d s. short_more b d l s) h.1)
+
+sound_read : (unit m : List ℕ) (r : SourceReading) (cs : List Content) (c : Content) → checked.Sound c ≡ checked_of unit m r cs → length unit ≤ 64 → length m ≤ 1048576 → AllByRecursion (λ (c : Content). length c.module ≤ 1048576) cs
+    → AreSmall 1048576 1048576 r → IsSound unit c × Fits unit c × (c.module ≡ m)
+sound_read unit m (Whole w) cs c e u v h small = sound_fits unit m w cs c (sym e) u v h small
+sound_read unit m (Refused d) cs c e u v h small = absurd (let h : ⊥ = cc in h)
 
 short_name : (t : PlainTree) → IsStanding t → (n : ℕ) (a : Node × List ℕ) → slice_get t.sources n ≡ Some a → length a.0.module.text ≤ 1048576
 short_name t fine n a here = (all_at IsSmallSource t.sources a (in_at t.sources n a here) fine.small).0
+
+pub short_source : (t : PlainTree) → IsStanding t → (n : ℕ) (a : Node × List ℕ) → slice_get t.sources n ≡ Some a → length a.1 ≤ 1048576
+short_source t fine n a here = (all_at IsSmallSource t.sources a (in_at t.sources n a here) fine.small).1
 
 short_one : (P : Content → Type 0) (o : Option Content) → ((c : Content) → o ≡ Some c → P c) → AllByRecursion P (one_at o)
 short_one P None h = tt
@@ -294,17 +309,20 @@ module _ (t : PlainTree) (fine : IsStanding t) (places : Places) (right : ArePla
         (record { how = Checked NoInterface; outcome = of_check (check_reading t.settings.unit a.0 read offers) })) (bad_is ∙ ap (place_node t.sources) sound)
         ∙ ap (λ r. record { how = Checked NoInterface; outcome = of_check r }) (check_is t.settings.unit a.0 read offers given imported_is ∙ ap outcome_of (sym e))
 
-    -- what a sound node offers has its interface
-    pub has_interface : (c : Content) → checked.Sound c ≡ checked_of t.settings.unit a.0.module.text read given → IsSmall read → IsSound t.settings.unit c × Fits t.settings.unit c × (c.module ≡ a.0.module.text)
-    has_interface c e small = sound_read t.settings.unit a.0.module.text read given c e fine.unit (short_name t fine n a here) (short_at (λ (c : Content). length c.module ≤ 1048576) old.contents.items (import_places places (imports_in read)) done.small) small
+    small_read : AreSmall 1048576 1048576 read
+    small_read = small_more (length a.1) read (short_source t fine n a here) (reading_small t.settings a.0 a.1)
 
-    pub next_sound : (new : Done) (c : Content) → checked.Sound c ≡ checked_of t.settings.unit a.0.module.text read given → IsSmall read → HasSound t.settings.unit a.0 c old.results new.results
+    -- what a sound node offers has its interface
+    pub has_interface : (c : Content) → checked.Sound c ≡ checked_of t.settings.unit a.0.module.text read given → IsSound t.settings.unit c × Fits t.settings.unit c × (c.module ≡ a.0.module.text)
+    has_interface c e = sound_read t.settings.unit a.0.module.text read given c e fine.unit (short_name t fine n a here) (short_at (λ (c : Content). length c.module ≤ 1048576) old.contents.items (import_places places (imports_in read)) done.small) small_read
+
+    pub next_sound : (new : Done) (c : Content) → checked.Sound c ≡ checked_of t.settings.unit a.0.module.text read given → HasSound t.settings.unit a.0 c old.results new.results
         → new.contents.items ≡ old.contents.items ++ c ∷ [] → new.firsts.items ≡ old.firsts.items ++ None ∷ [] → IsNext new × (is_checked (judged_next t a n).how ≡ 1)
-    next_sound new c e small rs cs fs =
+    next_sound new c e rs cs fs =
         let j : PlainJudged = record { how = Checked NoInterface; outcome = Sound c } in
         let judged : judged_next t a n ≡ j = checked_next (checked.Sound c) e in (
           done_next new (result_of a.0 checked_how [] (Some rs.0)) c None j judged (refl, (refl, refl), (refl, rs.1)) refl
-              (subst (λ m. length m ≤ 1048576) (sym (has_interface c e small).2) (short_name t fine n a here)) (ap (λ o. lesser o None) (sym sound)) rs.2 cs fs,
+              (subst (λ m. length m ≤ 1048576) (sym (has_interface c e).2) (short_name t fine n a here)) (ap (λ o. lesser o None) (sym sound)) rs.2 cs fs,
           ap (λ (i : PlainJudged). is_checked i.how) judged,
         )
 

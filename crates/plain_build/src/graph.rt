@@ -114,7 +114,10 @@ pub fn first_below(
         first = first_from(firsts, place_of(places, true, &node.module.text));
     }
     for import in imports {
-        first = lesser(first, first_from(firsts, import_place(places, &import.text)));
+        first = lesser(
+            first,
+            first_from(firsts, import_place(places, &import.text)),
+        );
     }
     first
 }
