@@ -1,8 +1,9 @@
 -- Steps lead to lesser nodes.
-use Rattle.std.proofs.Common.{◌≡◌, ◌⊎◌, ℕ, zero, suc, ◌+◌, Bool, true, false, ◌||◌, not, List, [], ◌∷◌, map, refl, ap, sym, ◌∙◌, subst, inl, inr, cond, Some, None}
+use Rattle.std.proofs.Common.{◌≡◌, ◌⊎◌, ℕ, zero, suc, Bool, true, false, ◌||◌, not, ◌&&◌, List, [], ◌∷◌, ◌++◌, map, refl, ap, sym, ◌∙◌, subst, inl, inr, cond, Some, None}
 use Rattle.std.specs.declared.option.Option.{Option}
 use Rattle.std.specs.Option.{option_map_or}
-use Rattle.std.specs.List.{list_all}
+use Rattle.std.specs.List.{AllByRecursion}
+use Rattle.std.specs.Prelude.{Result, Ok, Err, codes}
 use Rattle.std.specs.Map.{lookup}
 use Rattle.std.specs.Ordering.{is_lt, ordering_then, nat_cmp}
 use Rattle.std.specs.declared.cmp.Ordering.TheVariants.{Less}
@@ -10,84 +11,143 @@ use Rattle.std.proofs.lemmas.Cmp.{tied_itself, nat_list_cmp_total}
 use Rattle.mk_base.specs.Order.{text_cmp, place_of_node}
 use Rattle.mk_base.specs.declared.name.Node.{Node}
 use Rattle.build_theory.specs.Laws.{IsIn}
-use Rattle.build_theory.proofs.Lists.{both_ways, differ, and_both, any_in, all_holds, in_either}
-use Rattle.plain_form.specs.declared.form.DataLine.{DataLine}
+use Rattle.build_theory.proofs.Lists.{differ, and_both, any_in, all_at, in_either}
+use Rattle.mk_base.specs.declared.place.Pos.{Pos}
+use Rattle.mk_base.specs.declared.diag.Diag.{Diag}
+use Rattle.hs_syntax.specs.declared.token.Token.{Token}
+use Rattle.hs_lex.specs.Slow.{read_source}
+use Rattle.hs_layout.specs.Braced.{braced}
+use Rattle.plain_form.specs.declared.form.Word.{Word}
+use Rattle.plain_form.specs.declared.form.DataItem.{DataItem}
 use Rattle.plain_form.specs.declared.form.Reading.{Reading}
-use Rattle.plain_form.specs.declared.form.Reading.TheVariants.{Form, Leaves}
-use Rattle.plain_form.specs.Words.{is_con, same_text, lines}
-use Rattle.plain_form.specs.Form.{Line, OfModule, OfImport, OfData, line_of, is_import, with_data, with_import, data_next, read_datas, import_next, read_imports, module_next, read_lines, read_source}
-use Rattle.plain_build.specs.Plain.{Settings, PlainTree, less_node, same_node, node_named, reading, imports_in, imports_of, leads_to, reaches}
+use Rattle.plain_form.specs.declared.state.Stage.{Stage}
+use Rattle.plain_form.specs.declared.state.Stage.TheVariants as stage
+use Rattle.plain_form.specs.declared.state.State.{State}
+use Rattle.plain_form.specs.Words.{is_con, same_text}
+use Rattle.plain_form.specs.Form.{first_place, is_import, is_text, is_name, opened, is_next, word_of, at_stage, with_import, with_data, with_field, on, at_open, at_data, at_item, is_close, behind_item, behind_data, step_at, step, ended, go, read_from, start, read_form}
+use Rattle.plain_build.specs.declared.reading.SourceReading.{SourceReading}
+use Rattle.plain_build.specs.declared.reading.SourceReading.TheVariants.{Refused}
+use Rattle.plain_build.specs.Plain.{Settings, PlainTree, less_node, same_node, node_named, unbuilt, formed, by_tokens, reading, imports_in, imports_of, leads_to, reaches}
 use Rattle.plain_build.proofs.Order.{only_less, plain_ordered}
 
 pub or_split : (b c : Bool) → (b || c) ≡ true → (b ≡ true) ⊎ (c ≡ true)
 or_split true c e = inl refl
 or_split false c e = inr e
 
-with_data_none : (d : DataLine) (r : Reading) → imports_in r ≡ [] → imports_in (with_data d r) ≡ []
-with_data_none d (Form w) e = e
-with_data_none d (Leaves k) e = refl
+-- the imports of a reading are lesser modules
+abbrev IsLesser : List ℕ → Word → Type 0
+IsLesser x y = is_import x y.text ≡ true
 
-data_next_none : (k : ℕ) (o : Option Line) (r : Reading) → imports_in r ≡ [] → imports_in (data_next k o r) ≡ []
-data_next_none k None r e = refl
-data_next_none k (Some (OfModule x)) r e = refl
-data_next_none k (Some (OfImport x)) r e = refl
-data_next_none k (Some (OfData d)) r e = with_data_none d r e
+abbrev AreLesser : List ℕ → List Word → Type 0
+AreLesser x ys = AllByRecursion (IsLesser x) ys
 
-datas_none : (k : ℕ) (ls : List (List ℕ)) → imports_in (read_datas k ls) ≡ []
-datas_none k [] = refl
-datas_none k (l ∷ ls) = data_next_none k (line_of l) (read_datas (k + 1) ls) (datas_none (k + 1) ls)
+one_more : (x : List ℕ) (ys : List Word) (y : Word) → AreLesser x ys → IsLesser x y → AreLesser x (ys ++ y ∷ [])
+one_more x [] y h k = (k, tt)
+one_more x (z ∷ ys) y h k = (h.0, one_more x ys y h.1 k)
 
-abbrev AreLesser : List ℕ → Reading → Type 0
-AreLesser x r = list_all (is_import x) (imports_in r) ≡ true
+abbrev KeepsLesser : List ℕ → Option State → Type 0
+KeepsLesser x (Some n) = AreLesser x n.written.imports
+KeepsLesser x None = Unit {0}
 
-with_lesser : (x y : List ℕ) (r : Reading) → is_import x y ≡ true → AreLesser x r → AreLesser x (with_import y r)
-with_lesser x y (Form w) e h = rw e h
-with_lesser x y (Leaves k) e h = refl
+on_lesser : (x : List ℕ) (b : Bool) (n : State) → AreLesser x n.written.imports → KeepsLesser x (on b n)
+on_lesser x true n h = h
+on_lesser x false n h = tt
 
-import_lesser : (x : List ℕ) (o : Option Line) (r s : Reading) → AreLesser x r → AreLesser x s → AreLesser x (import_next x o r s)
-import_lesser x None r s h k = k
-import_lesser x (Some (OfModule y)) r s h k = k
-import_lesser x (Some (OfData d)) r s h k = k
-import_lesser x (Some (OfImport y)) r s h k =
-    both_ways (is_import x y)
-    (λ e. subst (λ b. AreLesser x (cond b (with_import y r) s)) (sym e) (with_lesser x y r e h))
-    (λ e. subst (λ b. AreLesser x (cond b (with_import y r) s)) (sym e) k)
+either_lesser : (x : List ℕ) (b : Bool) (n : State) (o : Option State) → AreLesser x n.written.imports → KeepsLesser x o → KeepsLesser x (cond b (Some n) o)
+either_lesser x true n o h k = h
+either_lesser x false n o h k = k
 
-imports_lesser : (x : List ℕ) (k : ℕ) (ls : List (List ℕ)) → AreLesser x (read_imports x k ls)
-imports_lesser x k [] = refl
-imports_lesser x k (l ∷ ls) =
-    import_lesser x (line_of l) (read_imports x (k + 1) ls) (read_datas k (l ∷ ls)) (imports_lesser x (k + 1) ls) (ap (list_all (is_import x)) (datas_none k (l ∷ ls)))
+import_lesser : (x : List ℕ) (s : State) (t : Token) (b c : Bool) → c ≡ is_import x t.text → AreLesser x s.written.imports → KeepsLesser x (on (b && c) (with_import s (word_of t)))
+import_lesser x s t true true e h = one_more x s.written.imports (word_of t) h (sym e)
+import_lesser x s t true false e h = tt
+import_lesser x s t false c e h = tt
 
-module_lesser : (x : List ℕ) (o : Option Line) (r : Reading) → AreLesser x r → AreLesser x (module_next x o r)
-module_lesser x None r h = refl
-module_lesser x (Some (OfImport y)) r h = refl
-module_lesser x (Some (OfData d)) r h = refl
-module_lesser x (Some (OfModule y)) r h =
-    both_ways (same_text y x)
-    (λ e. subst (λ b. AreLesser x (cond b r (Leaves 1))) (sym e) h)
-    (λ e. subst (λ b. AreLesser x (cond b r (Leaves 1))) (sym e) refl)
+open_lesser : (x : List ℕ) (s : State) (o : Option Bool) → AreLesser x s.written.imports → KeepsLesser x (at_open s o)
+open_lesser x s (Some put) h = h
+open_lesser x s None h = tt
 
-lines_lesser : (x : List ℕ) (ls : List (List ℕ)) → AreLesser x (read_lines x ls)
-lines_lesser x [] = refl
-lines_lesser x (l ∷ ls) = module_lesser x (line_of l) (read_imports x 2 ls) (imports_lesser x 2 ls)
+data_lesser : (x : List ℕ) (s : State) (t : Token) → AreLesser x s.written.imports → KeepsLesser x (at_data s t)
+data_lesser x s t h = on_lesser x (is_text (codes "data") t) (at_stage s stage.DataType) h
 
-left_lesser : (b : Bool) (x : List ℕ) (r : Reading) → AreLesser x r → AreLesser x (cond b (Leaves 1) r)
-left_lesser true x r h = refl
-left_lesser false x r h = h
+item_lesser : (x : List ℕ) (s : State) (t : Token) → AreLesser x s.written.imports → KeepsLesser x (at_item s t)
+item_lesser x s t h = either_lesser x (is_text (codes "import") t) (at_stage s stage.Import) (at_data s t) h (data_lesser x s t h)
 
-pub reading_lesser : (g : Settings) (n : Node) (s : List ℕ) → list_all (is_import n.module.text) (imports_in (reading g n s)) ≡ true
-reading_lesser g n s = left_lesser (g.prelude || (n.boot || not (is_con n.module.text))) n.module.text (read_source n.module.text s) (lines_lesser n.module.text (lines s))
+behind_lesser : (x : List ℕ) (s : State) (g : Stage) (t : Token) → AreLesser x s.written.imports → KeepsLesser x (behind_item s g t)
+behind_lesser x s g t h = either_lesser x (is_next t.sign t.text) (at_stage s g) (on (is_close s t) (at_stage s stage.End)) h (on_lesser x (is_close s t) (at_stage s stage.End) h)
 
-boot_left : (p b c : Bool) (r : Reading) → b ≡ true → imports_in (cond (p || (b || c)) (Leaves 1) r) ≡ []
-boot_left true b c r e = refl
-boot_left false true c r e = refl
-boot_left false false c r e = absurd (differ (sym e))
+behind_data_lesser : (x : List ℕ) (s : State) (d : DataItem) (t : Token) → AreLesser x s.written.imports → KeepsLesser x (behind_data s d t)
+behind_data_lesser x s d t h = either_lesser x (is_next t.sign t.text) (with_data s stage.NextData d) (on (is_close s t) (with_data s stage.End d)) h (on_lesser x (is_close s t) (with_data s stage.End d) h)
+
+step_lesser : (x : List ℕ) (s : State) (g : Stage) (t : Token) → AreLesser x s.written.imports → KeepsLesser x (step_at x s g t)
+step_lesser x s stage.Start t h = on_lesser x (is_text (codes "module") t) (at_stage s stage.Name) h
+step_lesser x s stage.Name t h = on_lesser x (is_text x t) (at_stage s stage.Where) h
+step_lesser x s stage.Where t h = on_lesser x (is_text (codes "where") t) (at_stage s stage.Open) h
+step_lesser x s stage.Open t h = open_lesser x s (opened t.sign t.text) h
+step_lesser x s stage.Body t h = either_lesser x (is_close s t) (at_stage s stage.End) (at_item s t) h (item_lesser x s t h)
+step_lesser x s stage.Import t h = import_lesser x s t (is_name t) (is_import x t.text) refl h
+step_lesser x s stage.Imported t h = behind_lesser x s stage.NextItem t h
+step_lesser x s stage.NextItem t h = item_lesser x s t h
+step_lesser x s stage.NextData t h = data_lesser x s t h
+step_lesser x s stage.DataType t h = on_lesser x (is_name t) (at_stage s (stage.DataEquals (word_of t))) h
+step_lesser x s (stage.DataEquals ty) t h = on_lesser x (is_text (codes "=") t) (at_stage s (stage.DataCon ty)) h
+step_lesser x s (stage.DataCon ty) t h = on_lesser x (is_name t) (at_stage s (stage.Fields (record { ty = ty; con = word_of t; fields = [] }))) h
+step_lesser x s (stage.Fields d) t h = either_lesser x (is_name t) (at_stage s (stage.Fields (with_field d (word_of t)))) (behind_data s d t) h (behind_data_lesser x s d t h)
+step_lesser x s stage.End t h = tt
+
+abbrev HasLesser : List ℕ → SourceReading → Type 0
+HasLesser x r = AreLesser x (imports_in r)
+
+go_lesser : (x : List ℕ) (t : Token) (o : Option State) (f : State → Reading) → KeepsLesser x o → ((n : State) → AreLesser x n.written.imports → HasLesser x (formed (f n))) → HasLesser x (formed (go t o f))
+go_lesser x t (Some n) f h on = on n h
+go_lesser x t None f h on = tt
+
+ended_lesser : (x : List ℕ) (s : State) (g : Stage) (last : Pos) → AreLesser x s.written.imports → HasLesser x (formed (ended s g last))
+ended_lesser x s stage.End last h = h
+ended_lesser x s stage.Start last h = tt
+ended_lesser x s stage.Name last h = tt
+ended_lesser x s stage.Where last h = tt
+ended_lesser x s stage.Open last h = tt
+ended_lesser x s stage.Body last h = tt
+ended_lesser x s stage.Import last h = tt
+ended_lesser x s stage.Imported last h = tt
+ended_lesser x s stage.NextItem last h = tt
+ended_lesser x s stage.NextData last h = tt
+ended_lesser x s stage.DataType last h = tt
+ended_lesser x s (stage.DataEquals ty) last h = tt
+ended_lesser x s (stage.DataCon ty) last h = tt
+ended_lesser x s (stage.Fields d) last h = tt
+
+from_lesser : (x : List ℕ) (ts : List Token) (s : State) (last : Pos) → AreLesser x s.written.imports → HasLesser x (formed (read_from x s last ts))
+from_lesser x [] s last h = ended_lesser x s s.stage last h
+from_lesser x (t ∷ ts) s last h = go_lesser x t (step x s t) (λ n. read_from x n t.at ts) (step_lesser x s s.stage t h) (λ n k. from_lesser x ts n t.at k)
+
+refused_or : (x : List ℕ) (b : Bool) (d : Diag) (r : SourceReading) → HasLesser x r → HasLesser x (cond b (Refused d) r)
+refused_or x true d r h = tt
+refused_or x false d r h = h
+
+tokens_lesser : (g : Settings) (n : Node) (o : Result (List Token) Pos) → HasLesser n.module.text (by_tokens g n o)
+tokens_lesser g n (Err at) = tt
+tokens_lesser g n (Ok ts) =
+    refused_or n.module.text (g.prelude || (n.boot || not (is_con n.module.text))) (unbuilt first_place) (formed (read_form n.module.text (braced ts)))
+    (from_lesser n.module.text (braced ts) start first_place tt)
+
+pub reading_lesser : (g : Settings) (n : Node) (s : List ℕ) → HasLesser n.module.text (reading g n s)
+reading_lesser g n s = tokens_lesser g n (read_source s)
+
+boot_left : (p b c : Bool) (d : Diag) (r : SourceReading) → b ≡ true → imports_in (cond (p || (b || c)) (Refused d) r) ≡ []
+boot_left true b c d r e = refl
+boot_left false true c d r e = refl
+boot_left false false c d r e = absurd (differ (sym e))
+
+boot_tokens : (g : Settings) (n : Node) (o : Result (List Token) Pos) → n.boot ≡ true → imports_in (by_tokens g n o) ≡ []
+boot_tokens g n (Err at) e = refl
+boot_tokens g n (Ok ts) e = boot_left g.prelude n.boot (not (is_con n.module.text)) (unbuilt first_place) (formed (read_form n.module.text (braced ts))) e
 
 pub boot_reading : (g : Settings) (n : Node) (s : List ℕ) → n.boot ≡ true → imports_in (reading g n s) ≡ []
-boot_reading g n s e = boot_left g.prelude n.boot (not (is_con n.module.text)) (read_source n.module.text s) e
+boot_reading g n s e = boot_tokens g n (read_source s) e
 
-found_lesser : (t : PlainTree) (n : Node) (o : Option (List ℕ)) → list_all (is_import n.module.text) (option_map_or (λ s. imports_in (reading t.settings n s)) o []) ≡ true
-found_lesser t n None = refl
+found_lesser : (t : PlainTree) (n : Node) (o : Option (List ℕ)) → AreLesser n.module.text (option_map_or (λ s. imports_in (reading t.settings n s)) o [])
+found_lesser t n None = tt
 found_lesser t n (Some s) = reading_lesser t.settings n s
 
 then_less : (m n : Node) → text_cmp m.module.text n.module.text ≡ Less → less_node m n ≡ true
@@ -116,11 +176,11 @@ in_own n c true e i = absurd i
 in_own n c false e i = elim i [ inl k ↦ subst (λ d. less_node d n ≡ true) (sym k) (boot_less n e) | inr k ↦ absurd k ]
 
 pub leads_less : (t : PlainTree) (n c : Node) → IsIn c (leads_to t n) → less_node c n ≡ true
-leads_less t n c i = elim (in_either (own_boot n) (map (λ y. node_named y false) (imports_of t n)) c i) [
+leads_less t n c i = elim (in_either (own_boot n) (map (λ (y : Word). node_named y.text false) (imports_of t n)) c i) [
   | inl k ↦ in_own n c n.boot refl k
   | inr k ↦
-      let m = in_map (λ y. node_named y false) (imports_of t n) c k in
-      subst (λ d. less_node d n ≡ true) (sym m.2) (import_less n m.0 (all_holds (is_import n.module.text) (imports_of t n) m.0 m.1 (found_lesser t n (lookup (same_node n) t.sources))))
+      let m = in_map (λ (y : Word). node_named y.text false) (imports_of t n) c k in
+      subst (λ d. less_node d n ≡ true) (sym m.2) (import_less n m.0.text (all_at (IsLesser n.module.text) (imports_of t n) m.0 m.1 (found_lesser t n (lookup (same_node n) t.sources))))
 ]
 
 pub reaches_less : (k : ℕ) (t : PlainTree) (a b : Node) → ((m n : Node) → same_node m n ≡ true → m ≡ n) → reaches k t a b ≡ true → less_node b a ≡ true

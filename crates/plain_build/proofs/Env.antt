@@ -1,5 +1,5 @@
 -- What the imports of a node offer, once all its needs are sound.
-use Rattle.std.proofs.Common.{◌≡◌, ℕ, zero, suc, ◌+◌, Bool, true, false, not, List, [], ◌∷◌, ◌++◌, refl, ap, sym, ◌∙◌, subst, inl, inr, cond, Some, None}
+use Rattle.std.proofs.Common.{◌≡◌, ℕ, zero, suc, Bool, true, false, not, List, [], ◌∷◌, ◌++◌, refl, ap, sym, ◌∙◌, subst, inl, inr, cond, Some, None}
 use Rattle.std.specs.Prelude.{slice_get}
 use Rattle.std.specs.declared.option.Option.{Option}
 use Rattle.std.specs.List.{list_any}
@@ -9,10 +9,11 @@ use Rattle.mk_base.specs.declared.diag.Diag.{Diag}
 use Rattle.build_theory.specs.Build.{Outcome, Sound, Failed, Blocked, is_sound, is_need, interface_in, environment}
 use Rattle.build_theory.specs.Laws.{IsIn}
 use Rattle.build_theory.proofs.Lists.{both_ways, differ, clash, or_false, look_yes, look_no}
+use Rattle.plain_form.specs.declared.form.Word.{Word}
 use Rattle.plain_scope.specs.declared.scope.Content.{Content}
 use Rattle.plain_scope.specs.Scope.{one_at, contents_at}
 use Rattle.plain_build.specs.declared.places.Places.{Places}
-use Rattle.plain_build.specs.Plain.{PlainTree, plain, same_node, node_named, has_node, imported, missing_from}
+use Rattle.plain_build.specs.Plain.{PlainTree, plain, same_node, node_named, has_node, imported, missing_among}
 use Rattle.plain_build.specs.Result.{PlainJudged}
 use Rattle.plain_build.specs.Steps.{ArePlaces, IsPlace, place_in, one_place, import_places}
 use Rattle.plain_build.specs.Done.{IsContent, AreContents, is_bad}
@@ -54,12 +55,12 @@ pub record IsOffered (places : Places) (contents : List Content) (env : List (No
   pub kept : slice_get contents place ≡ Some content
   pub found : lookup (same_node (node_named y false)) env ≡ Some content
 
-pub imported_at : (places : Places) (contents : List Content) (env : List (Node × Content)) (ys : List (List ℕ)) → ((y : List ℕ) → IsIn y ys → IsOffered places contents env y)
+pub imported_at : (places : Places) (contents : List Content) (env : List (Node × Content)) (ys : List Word) → ((y : Word) → IsIn y ys → IsOffered places contents env y.text)
     → imported env ys ≡ contents_at contents (import_places places ys)
 imported_at places contents env [] h = refl
 imported_at places contents env (y ∷ ys) h =
     let o = h y (inl refl) in
-    let one : one_at (lookup (same_node (node_named y false)) env) ≡ one_at (slice_get contents o.place) = ap one_at o.found ∙ sym (ap one_at o.kept) in
+    let one : one_at (lookup (same_node (node_named y.text false)) env) ≡ one_at (slice_get contents o.place) = ap one_at o.found ∙ sym (ap one_at o.kept) in
     let rest : imported env ys ≡ contents_at contents (import_places places ys) = imported_at places contents env ys (λ z i. h z (inr i)) in
     ap (λ x. x ++ imported env ys) one ∙ ap (λ x. one_at (slice_get contents o.place) ++ x) rest
     ∙ sym (ap (λ p. contents_at contents (one_place p ++ import_places places ys)) o.stands)
@@ -73,14 +74,14 @@ place_there qs n None p e = absurd (clash (list_any (λ q. same_node n q.0) qs) 
 place_there qs n (Some i) p e = (i, p.0, refl, p.1)
 
 -- where no import is missing each has its place
-pub import_there : (t : PlainTree) (places : Places) (line : ℕ) (ys : List (List ℕ)) → ArePlaces places t.sources → missing_from t line ys ≡ [] → (y : List ℕ) → IsIn y ys
-    → (i : ℕ) × (s : List ℕ) × (place_in places false y ≡ Some i) × (slice_get t.sources i ≡ Some (node_named y false, s))
-import_there t places line [] right none y i = absurd i
-import_there t places line (z ∷ ys) right none y i =
-    let s = no_diags (has_node t (node_named z false)) _ (missing_from t (line + 1) ys) none in
+pub import_there : (t : PlainTree) (places : Places) (ys : List Word) → ArePlaces places t.sources → missing_among t ys ≡ [] → (y : Word) → IsIn y ys
+    → (i : ℕ) × (s : List ℕ) × (place_in places false y.text ≡ Some i) × (slice_get t.sources i ≡ Some (node_named y.text false, s))
+import_there t places [] right none y i = absurd i
+import_there t places (z ∷ ys) right none y i =
+    let s = no_diags (has_node t (node_named z.text false)) _ (missing_among t ys) none in
     elim i [
-      | inl e ↦ place_there t.sources (node_named y false) (place_in places false y) (right false y) (subst (λ x. has_node t (node_named x false) ≡ true) (sym e) s.0)
-      | inr j ↦ import_there t places (line + 1) ys right s.1 y j
+      | inl e ↦ place_there t.sources (node_named y.text false) (place_in places false y.text) (right false y.text) (subst (λ (x : Word). has_node t (node_named x.text false) ≡ true) (sym e) s.0)
+      | inr j ↦ import_there t places ys right s.1 y j
     ]
 
 content_of_sound : (c : Content) (o : Outcome Node Content (List Diag)) → IsContent c o → not (is_sound o) ≡ false → o ≡ Sound c

@@ -11,6 +11,7 @@ use Rattle.mk_base.specs.declared.diag.Diag.{Diag}
 use Rattle.build_theory.specs.Build.{Outcome, outcomes, is_sound, is_need, is_sound_in, first_bad}
 use Rattle.build_theory.specs.Laws.{IsIn}
 use Rattle.build_theory.proofs.Lists.{both_ways, differ, clash, or_left, or_right, all_at, look_yes, look_no}
+use Rattle.plain_form.specs.declared.form.Word.{Word}
 use Rattle.plain_scope.specs.declared.scope.Content.{Content}
 use Rattle.plain_build.specs.declared.places.Places.{Places}
 use Rattle.plain_build.specs.Plain.{PlainTree, plain, less_node, same_node, node_named, has_node, imports_of, leads_to, reaches}
@@ -92,8 +93,8 @@ in_behind : {X : Type 0} (xs ys : List X) (x : X) → IsIn x ys → IsIn x (xs +
 in_behind [] ys x i = i
 in_behind (z ∷ xs) ys x i = inr (in_behind xs ys x i)
 
-pub in_back_map : (xs : List Node) (ys : List (List ℕ)) (y : List ℕ) → IsIn y ys → IsIn (node_named y false) (xs ++ map (λ y. node_named y false) ys)
-in_back_map xs ys y i = in_behind xs (map (λ y. node_named y false) ys) (node_named y false) (in_map_of (λ y. node_named y false) ys y i)
+pub in_back_map : (xs : List Node) (ys : List Word) (y : Word) → IsIn y ys → IsIn (node_named y.text false) (xs ++ map (λ (y : Word). node_named y.text false) ys)
+in_back_map xs ys y i = in_behind xs (map (λ (y : Word). node_named y.text false) ys) (node_named y.text false) (in_map_of (λ (y : Word). node_named y.text false) ys y i)
 
 -- the results are those of the first sources
 abbrev pub Stands : Results → Sources → Type 0
@@ -213,16 +214,16 @@ module _ (t : PlainTree) (rising : AreRising t.sources) (places : Places) (right
     none_first : IsLeast (λ k. false && is_bad js k) None
     none_first = λ k. refl
 
-    imports_first : (ys : List (List ℕ)) → ((y : List ℕ) → IsIn y ys → less_node (node_named y false) a.0 ≡ true)
-        → IsLeast (λ k. touched (map (λ y. node_named y false) ys) k && is_bad js k) (first_of_imports places firsts ys)
+    imports_first : (ys : List Word) → ((y : Word) → IsIn y ys → less_node (node_named y.text false) a.0 ≡ true)
+        → IsLeast (λ k. touched (map (λ (y : Word). node_named y.text false) ys) k && is_bad js k) (first_of_imports places firsts ys)
     imports_first [] l = λ k. refl
     imports_first (y ∷ ys) l =
-        least_alike (λ k. (touches t (node_named y false) k && is_bad js k) || (touched (map (λ y. node_named y false) ys) k && is_bad js k))
-        (λ k. touched (map (λ y. node_named y false) (y ∷ ys)) k && is_bad js k) (first_of_imports places firsts (y ∷ ys))
-        (λ k. sym (both_or (touches t (node_named y false) k) (touched (map (λ y. node_named y false) ys) k) (is_bad js k)))
-        (least_either (λ k. touches t (node_named y false) k && is_bad js k) (λ k. touched (map (λ y. node_named y false) ys) k && is_bad js k)
-        (first_from firsts (import_place places y)) (first_of_imports places firsts ys)
-        (import_first y (place_in places false y) refl (l y (inl refl))) (imports_first ys (λ z i. l z (inr i))))
+        least_alike (λ k. (touches t (node_named y.text false) k && is_bad js k) || (touched (map (λ (y : Word). node_named y.text false) ys) k && is_bad js k))
+        (λ k. touched (map (λ (y : Word). node_named y.text false) (y ∷ ys)) k && is_bad js k) (first_of_imports places firsts (y ∷ ys))
+        (λ k. sym (both_or (touches t (node_named y.text false) k) (touched (map (λ (y : Word). node_named y.text false) ys) k) (is_bad js k)))
+        (least_either (λ k. touches t (node_named y.text false) k && is_bad js k) (λ k. touched (map (λ (y : Word). node_named y.text false) ys) k && is_bad js k)
+        (first_from firsts (import_place places y.text)) (first_of_imports places firsts ys)
+        (import_first y.text (place_in places false y.text) refl (l y (inl refl))) (imports_first ys (λ z i. l z (inr i))))
 
     own_first : (b : Bool) → a.0.boot ≡ b → IsLeast (λ k. touched (cond b [] (node_named a.0.module.text true ∷ [])) k && is_bad js k) (cond b None (first_from firsts (place_in places true a.0.module.text)))
     own_first true e = λ k. refl
@@ -236,11 +237,11 @@ module _ (t : PlainTree) (rising : AreRising t.sources) (places : Places) (right
     leads_first : IsLeast (λ k. touched (leads_to t a.0) k && is_bad js k) (first_below places firsts a.0 (imports_of t a.0))
     leads_first =
         let own : List Node = cond a.0.boot [] (node_named a.0.module.text true ∷ []) in
-        let others : List Node = map (λ y. node_named y false) (imports_of t a.0) in
+        let others : List Node = map (λ (y : Word). node_named y.text false) (imports_of t a.0) in
         least_alike (λ k. (touched own k && is_bad js k) || (touched others k && is_bad js k)) (λ k. touched (own ++ others) k && is_bad js k) (first_below places firsts a.0 (imports_of t a.0))
         (λ k. ap (λ b. b && is_bad js k) (list_any-append (λ c. touches t c k) own others) ∙ sym (both_or (touched own k) (touched others k) (is_bad js k)))
         (least_either (λ k. touched own k && is_bad js k) (λ k. touched others k && is_bad js k) (first_of_boot places firsts a.0) (first_of_imports places firsts (imports_of t a.0))
-        (own_first a.0.boot refl) (imports_first (imports_of t a.0) (λ y i. leads_less t a.0 (node_named y false) (in_back_map own (imports_of t a.0) y i))))
+        (own_first a.0.boot refl) (imports_first (imports_of t a.0) (λ y i. leads_less t a.0 (node_named y.text false) (in_back_map own (imports_of t a.0) y i))))
 
     abbrev reached : ℕ → Bool
     reached k = at (λ (q : Node × List ℕ). reaches (length t.sources) t a.0 q.0) t.sources k

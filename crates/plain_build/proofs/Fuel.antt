@@ -8,6 +8,7 @@ use Rattle.std.proofs.lemmas.List.{append-nil}
 use Rattle.mk_base.specs.declared.name.Node.{Node}
 use Rattle.build_theory.specs.Laws.{IsIn, IsDownward}
 use Rattle.build_theory.proofs.Lists.{both_ways, differ, and_both, or_false, look_no}
+use Rattle.plain_form.specs.declared.form.Word.{Word}
 use Rattle.plain_build.specs.Plain.{PlainTree, plain, less_node, same_node, node_named, has_node, reading, imports_in, leads_to, reaches}
 use Rattle.plain_build.proofs.Order.{plain_ordered, plain_exact}
 use Rattle.plain_build.proofs.Down.{boot_reading, boot_less, leads_less, reaches_less}
@@ -97,7 +98,7 @@ module _ (t : PlainTree) where
   -- a node without a source leads to its boot node alone
   absent_leads : (c : Node) → has_node t c ≡ false → leads_to t c ≡ cond c.boot [] (node_named c.module.text true ∷ [])
   absent_leads c h =
-      ap (λ o. cond c.boot [] (node_named c.module.text true ∷ []) ++ map (λ y. node_named y false) (option_map_or (λ s. imports_in (reading t.settings c s)) o [])) (lookup_none c t.sources h)
+      ap (λ o. cond c.boot [] (node_named c.module.text true ∷ []) ++ map (λ (y : Word). node_named y.text false) (option_map_or (λ s. imports_in (reading t.settings c s)) o [])) (lookup_none c t.sources h)
       ∙ append-nil (cond c.boot [] (node_named c.module.text true ∷ []))
 
   boot_imports : (n : Node) (o : Option (List ℕ)) → n.boot ≡ true → option_map_or (λ s. imports_in (reading t.settings n s)) o [] ≡ []
@@ -107,7 +108,7 @@ module _ (t : PlainTree) where
   -- a boot node leads nowhere
   boot_stops : (n : Node) → n.boot ≡ true → leads_to t n ≡ []
   boot_stops n e =
-      ap (λ ys. cond n.boot [] (node_named n.module.text true ∷ []) ++ map (λ y. node_named y false) ys) (boot_imports n (lookup (same_node n) t.sources) e)
+      ap (λ ys. cond n.boot [] (node_named n.module.text true ∷ []) ++ map (λ (y : Word). node_named y.text false) ys) (boot_imports n (lookup (same_node n) t.sources) e)
       ∙ ap (λ b. cond b [] (node_named n.module.text true ∷ []) ++ []) e
 
   pub boot_reaches : (k : ℕ) (n b : Node) → n.boot ≡ true → reaches k t n b ≡ false

@@ -1,3 +1,4 @@
+pub mod Bounds
 pub mod Down
 pub mod Env
 pub mod Exits
@@ -5,6 +6,7 @@ pub mod First
 pub mod Firsts
 pub mod Fuel
 pub mod Least
+pub mod Lexing
 pub mod Loops
 pub mod Next
 pub mod Order
@@ -12,3 +14,4 @@ pub mod Paths
 pub mod Sorting
 pub mod Sound
 pub mod Trees
+pub mod Weights

@@ -10,9 +10,10 @@ use Rattle.mk_base.specs.declared.diag.Diag.{Diag}
 use Rattle.build_theory.proofs.Lists.{both_ways, clash}
 use Rattle.plain_build.proofs.Least.{both_false}
 use Rattle.std.proofs.lemmas.Bool.Decides.{nat_tests}
+use Rattle.plain_form.specs.declared.form.Word.{Word}
 use Rattle.plain_build.specs.declared.places.Places.{Places}
 use Rattle.plain_build.specs.declared.sources.Source.{Source}
-use Rattle.plain_build.specs.Plain.{PlainTree, same_node, node_named, missing_at, missing_from}
+use Rattle.plain_build.specs.Plain.{PlainTree, same_node, node_named, missing_at, missing_among}
 use Rattle.plain_build.specs.Steps.{ArePlaces, IsPlace, pairs, place_in, missing_in, not_found, lesser, first_from, import_place, first_of_imports}
 use Rattle.plain_build.proofs.Order.{plain_exact}
 use Rattle.plain_build.proofs.First.{node_at}
@@ -24,17 +25,17 @@ rest_next xs i x lt is = drop_more xs i x lt ∙ ap (λ y. y ∷ drop (i + 1) xs
 pub front_next : {X : Type 0} (xs : List X) (i : ℕ) (x : X) → i < length xs → x ≡ get_or xs i x → take (i + 1) xs ≡ take i xs ++ x ∷ []
 front_next xs i x lt is = take_more xs i x lt ∙ ap (λ y. take i xs ++ y ∷ []) (sym is)
 
-missing_is : (t : PlainTree) (line : ℕ) (y : List ℕ) (o : Option ℕ) → IsPlace t.sources (node_named y false) o → missing_in o line y ≡ missing_at t line y
-missing_is t line y None h = sym (ap (λ b. cond b [] (not_found line y ∷ [])) h)
-missing_is t line y (Some i) h = sym (ap (λ b. cond b [] (not_found line y ∷ [])) (node_at t.sources i (node_named y false, h.0) h.1))
+missing_is : (t : PlainTree) (y : Word) (o : Option ℕ) → IsPlace t.sources (node_named y.text false) o → missing_in o y ≡ missing_at t y
+missing_is t y None h = sym (ap (λ b. cond b [] (not_found y ∷ [])) h)
+missing_is t y (Some i) h = sym (ap (λ b. cond b [] (not_found y ∷ [])) (node_at t.sources i (node_named y.text false, h.0) h.1))
 
-pub missing_next : (t : PlainTree) (places : Places) (line i : ℕ) (ys : List (List ℕ)) (y : List ℕ) (old new all : List Diag) → ArePlaces places t.sources → i < length ys → y ≡ get_or ys i y
-    → new ≡ old ++ missing_in (place_in places false y) line y → old ++ missing_from t line (drop i ys) ≡ all → new ++ missing_from t (line + 1) (drop (i + 1) ys) ≡ all
-missing_next t places line i ys y old new all right lt is e h =
-    let tail : List Diag = missing_from t (line + 1) (drop (i + 1) ys) in
-    ap (λ n. n ++ tail) (e ∙ ap (λ d. old ++ d) (missing_is t line y (place_in places false y) (right false y)))
-    ∙ append_assoc old (missing_at t line y) tail
-    ∙ ap (λ r. old ++ missing_from t line r) (sym (rest_next ys i y lt is))
+pub missing_next : (t : PlainTree) (places : Places) (i : ℕ) (ys : List Word) (y : Word) (old new all : List Diag) → ArePlaces places t.sources → i < length ys → y ≡ get_or ys i y
+    → new ≡ old ++ missing_in (place_in places false y.text) y → old ++ missing_among t (drop i ys) ≡ all → new ++ missing_among t (drop (i + 1) ys) ≡ all
+missing_next t places i ys y old new all right lt is e h =
+    let tail : List Diag = missing_among t (drop (i + 1) ys) in
+    ap (λ n. n ++ tail) (e ∙ ap (λ d. old ++ d) (missing_is t y (place_in places false y.text) (right false y.text)))
+    ∙ append_assoc old (missing_at t y) tail
+    ∙ ap (λ r. old ++ missing_among t r) (sym (rest_next ys i y lt is))
     ∙ h
 
 least_of_three : (x y z : ℕ) → cond (nat_lt z (cond (nat_lt y x) y x)) z (cond (nat_lt y x) y x) ≡ cond (nat_lt (cond (nat_lt z y) z y) x) (cond (nat_lt z y) z y) x
@@ -46,11 +47,11 @@ lesser_assoc (Some x) None c = refl
 lesser_assoc (Some x) (Some y) None = refl
 lesser_assoc (Some x) (Some y) (Some z) = ap (λ n. Some n) (least_of_three x y z)
 
-pub first_next : (places : Places) (firsts : List (Option ℕ)) (i : ℕ) (ys : List (List ℕ)) (y : List ℕ) (old new all : Option ℕ) → i < length ys → y ≡ get_or ys i y
-    → new ≡ lesser old (first_from firsts (import_place places y)) → lesser old (first_of_imports places firsts (drop i ys)) ≡ all → lesser new (first_of_imports places firsts (drop (i + 1) ys)) ≡ all
+pub first_next : (places : Places) (firsts : List (Option ℕ)) (i : ℕ) (ys : List Word) (y : Word) (old new all : Option ℕ) → i < length ys → y ≡ get_or ys i y
+    → new ≡ lesser old (first_from firsts (import_place places y.text)) → lesser old (first_of_imports places firsts (drop i ys)) ≡ all → lesser new (first_of_imports places firsts (drop (i + 1) ys)) ≡ all
 first_next places firsts i ys y old new all lt is e h =
     ap (λ n. lesser n (first_of_imports places firsts (drop (i + 1) ys))) e
-    ∙ lesser_assoc old (first_from firsts (import_place places y)) (first_of_imports places firsts (drop (i + 1) ys))
+    ∙ lesser_assoc old (first_from firsts (import_place places y.text)) (first_of_imports places firsts (drop (i + 1) ys))
     ∙ ap (λ r. lesser old (first_of_imports places firsts r)) (sym (rest_next ys i y lt is))
     ∙ h
 

@@ -14,11 +14,10 @@ use Rattle.face_model.specs.declared.result.How.TheVariants as how
 use Rattle.face_model.specs.declared.result.NodeResult.{NodeResult}
 use Rattle.build_theory.specs.Build.{Sound, Failed, Blocked, Checked, Graph, Behind, outcomes, is_sound, of_check, is_need, first_bad, environment, order, results}
 use Rattle.build_theory.specs.Laws.{IsIn}
-use Rattle.build_theory.proofs.Lists.{both_ways, look_yes, look_no, all_at, any_of, or_left}
+use Rattle.build_theory.proofs.Lists.{both_ways, look_yes, look_no, all_at, any_of, or_left, all_map}
 use Rattle.build_theory.proofs.Fold.{results_app}
-use Rattle.plain_form.specs.declared.form.Reading.{Reading}
-use Rattle.plain_form.specs.declared.form.Reading.TheVariants.{Form, Leaves}
-use Rattle.plain_form.specs.Form.{IsSmall}
+use Rattle.plain_form.specs.declared.form.Word.{Word}
+use Rattle.plain_form.specs.declared.form.DataItem.{DataItem}
 use Rattle.plain_scope.specs.declared.scope.Content.{Content}
 use Rattle.plain_scope.specs.declared.scope.Checked.{Checked as CheckedModule}
 use Rattle.plain_scope.specs.declared.scope.Checked.TheVariants as checked
@@ -26,7 +25,9 @@ use Rattle.plain_scope.specs.Scope.{check_of, contents_at, one_at}
 use Rattle.plain_face.specs.Interface.{IsSound, Fits}
 use Rattle.plain_build.specs.declared.places.Places.{Places}
 use Rattle.plain_build.specs.declared.done.Done.{Done}
-use Rattle.plain_build.specs.Plain.{PlainTree, plain, less_node, same_node, node_named, has_node, reading, imports_in, imports_of, imported, leads_to, reaches, missing_from, unless_none, outcome_of, check_reading}
+use Rattle.plain_build.specs.declared.reading.SourceReading.{SourceReading}
+use Rattle.plain_build.specs.declared.reading.SourceReading.TheVariants.{Whole, Refused}
+use Rattle.plain_build.specs.Plain.{PlainTree, plain, less_node, same_node, node_named, has_node, reading, imports_in, imports_of, imported, leads_to, reaches, missing_among, unless_none, outcome_of, check_reading}
 use Rattle.plain_build.specs.Result.{PlainJudged, IsResult, AreResults, is_checked}
 use Rattle.plain_build.specs.Steps.{lesser, ArePlaces, one_place, import_places, first_below}
 use Rattle.plain_build.specs.Kept.{empty_content, checked_how, result_of, HasSound}
@@ -38,6 +39,7 @@ use Rattle.plain_build.proofs.First.{Stands, in_at, standing, some_at, node_at, 
 use Rattle.plain_build.proofs.Firsts.{firsts_next, low_before, none_low, within}
 use Rattle.plain_build.proofs.Env.{env_at, IsOffered, imported_at, import_there, content_there}
 use Rattle.plain_build.proofs.Sound.{sound_fits}
+use Rattle.plain_build.proofs.Weights.{IsShortWord, IsShortItem, weight, AreSmall, reading_small}
 
 abbrev Results : Type 0
 Results = List (Node × PlainJudged)
@@ -102,7 +104,7 @@ all_last P [] x h k = (k, tt)
 all_last P (y ∷ xs) x h k = (h.0, all_last P xs x h.1 k)
 
 -- where a node without graph errors is blocked, and where it is checked
-step_graph : (t : PlainTree) (n : ℕ) (a : Node × List ℕ) (d : Diag) (ds : List Diag) → missing_from t 2 (imports_in (reading t.settings a.0 a.1)) ≡ d ∷ ds
+step_graph : (t : PlainTree) (n : ℕ) (a : Node × List ℕ) (d : Diag) (ds : List Diag) → missing_among t (imports_in (reading t.settings a.0 a.1)) ≡ d ∷ ds
     → judged_next t a n ≡ record { how = Graph; outcome = Failed (d ∷ ds) }
 unfolding judged_next
 step_graph t n a d ds e =
@@ -110,7 +112,7 @@ step_graph t n a d ds e =
     (option_map_or (λ n. record { how = Behind n; outcome = Blocked n }) (first_bad plain t a.0 (outcomes (judged_before t n)) (order plain t))
     (record { how = Checked NoInterface; outcome = of_check (check_reading t.settings.unit a.0 (reading t.settings a.0 a.1) (environment plain t a.0 (outcomes (judged_before t n)) t.sources)) }))) e
 
-step_free : (t : PlainTree) (n : ℕ) (a : Node × List ℕ) → missing_from t 2 (imports_in (reading t.settings a.0 a.1)) ≡ []
+step_free : (t : PlainTree) (n : ℕ) (a : Node × List ℕ) → missing_among t (imports_in (reading t.settings a.0 a.1)) ≡ []
     → judged_next t a n ≡ option_map_or (λ n. record { how = Behind n; outcome = Blocked n }) (first_bad plain t a.0 (outcomes (judged_before t n)) (order plain t))
     (record { how = Checked NoInterface; outcome = of_check (check_reading t.settings.unit a.0 (reading t.settings a.0 a.1) (environment plain t a.0 (outcomes (judged_before t n)) t.sources)) })
 unfolding judged_next
@@ -126,17 +128,30 @@ lesser_unwrap (Some p) n h =
     let no : nat_lt n p ≡ false = grind (arith, nat_tests) in
     ap (λ b. Some (cond b n p)) no
 
-check_is : (unit : List ℕ) (n : Node) (r : Reading) (env : List (Node × Content)) (cs : List Content) → imported env (imports_in r) ≡ cs → check_reading unit n r env ≡ outcome_of (checked_of unit n.module.text r cs)
-check_is unit n (Form w) env cs e = ap (λ xs. outcome_of (check_of unit n.module.text w xs)) e
-check_is unit n (Leaves k) env cs e = refl
+check_is : (unit : List ℕ) (n : Node) (r : SourceReading) (env : List (Node × Content)) (cs : List Content) → imported env (imports_in r) ≡ cs → check_reading unit n r env ≡ outcome_of (checked_of unit n.module.text r cs)
+check_is unit n (Whole w) env cs e = ap (λ xs. outcome_of (check_of unit n.module.text w xs)) e
+check_is unit n (Refused d) env cs e = refl
 
-sound_read : (unit m : List ℕ) (r : Reading) (cs : List Content) (c : Content) → checked.Sound c ≡ checked_of unit m r cs → length unit ≤ 64 → length m ≤ 1048576 → AllByRecursion (λ (c : Content). length c.module ≤ 1048576) cs → IsSmall r
-    → IsSound unit c × Fits unit c × (c.module ≡ m)
-sound_read unit m (Form w) cs c e u v h small = sound_fits unit m w cs c (sym e) u v h small
-sound_read unit m (Leaves k) cs c e u v h small = absurd (let h : ⊥ = cc in h)
+short_more : (b : ℕ) (d : DataItem) → b ≤ 1048576 → IsShortItem b d → IsShortItem 1048576 d
+short_more b d l h =
+    let x : length d.ty.text ≤ b = h.0 in
+    let y : length d.con.text ≤ b = h.1 in
+    (omega arith, omega arith, all_map (IsShortWord b) (IsShortWord 1048576) d.fields (λ f s. let z : length f.text ≤ b = s in omega arith) h.2)
+
+small_more : (b : ℕ) (r : SourceReading) → b ≤ 1048576 → AreSmall b b r → AreSmall 1048576 1048576 r
+small_more b (Refused d) l h = tt
+small_more b (Whole w) l h = let n : weight w ≤ b = h.0 in (omega arith, all_map (IsShortItem b) (IsShortItem 1048576) w.datas (λ d s. short_more b d l s) h.1)
+
+sound_read : (unit m : List ℕ) (r : SourceReading) (cs : List Content) (c : Content) → checked.Sound c ≡ checked_of unit m r cs → length unit ≤ 64 → length m ≤ 1048576 → AllByRecursion (λ (c : Content). length c.module ≤ 1048576) cs
+    → AreSmall 1048576 1048576 r → IsSound unit c × Fits unit c × (c.module ≡ m)
+sound_read unit m (Whole w) cs c e u v h small = sound_fits unit m w cs c (sym e) u v h small
+sound_read unit m (Refused d) cs c e u v h small = absurd (let h : ⊥ = cc in h)
 
 short_name : (t : PlainTree) → IsStanding t → (n : ℕ) (a : Node × List ℕ) → slice_get t.sources n ≡ Some a → length a.0.module.text ≤ 1048576
 short_name t fine n a here = (all_at IsSmallSource t.sources a (in_at t.sources n a here) fine.small).0
+
+pub short_source : (t : PlainTree) → IsStanding t → (n : ℕ) (a : Node × List ℕ) → slice_get t.sources n ≡ Some a → length a.1 ≤ 1048576
+short_source t fine n a here = (all_at IsSmallSource t.sources a (in_at t.sources n a here) fine.small).1
 
 short_one : (P : Content → Type 0) (o : Option Content) → ((c : Content) → o ≡ Some c → P c) → AllByRecursion P (one_at o)
 short_one P None h = tt
@@ -150,7 +165,7 @@ short_at : (P : Content → Type 0) (cs : List Content) (places : List ℕ) → 
 short_at P cs [] h = tt
 short_at P cs (i ∷ is) h = all_both P (one_at (slice_get cs i)) (contents_at cs is) (short_one P (slice_get cs i) (λ c e. all_at P cs c (in_at cs i c e) h)) (short_at P cs is h)
 
-places_within : (places : Places) (contents : List Content) (env : List (Node × Content)) (ys : List (List ℕ)) → ((y : List ℕ) → IsIn y ys → IsOffered places contents env y)
+places_within : (places : Places) (contents : List Content) (env : List (Node × Content)) (ys : List Word) → ((y : Word) → IsIn y ys → IsOffered places contents env y.text)
     → AllByRecursion (λ i. i < length contents) (import_places places ys)
 places_within places contents env [] h = tt
 places_within places contents env (y ∷ ys) h =
@@ -162,7 +177,7 @@ module _ (t : PlainTree) (fine : IsStanding t) (places : Places) (right : ArePla
   abbrev before : Results
   before = judged_before t n
 
-  abbrev read : Reading
+  abbrev read : SourceReading
   read = reading t.settings a.0 a.1
 
   abbrev low : Option ℕ
@@ -212,7 +227,7 @@ module _ (t : PlainTree) (fine : IsStanding t) (places : Places) (right : ArePla
   IsNext new = IsDone t new (n + 1)
 
   -- a node with graph errors
-  pub next_graph : (new : Done) (ds : List Diag) (f : ℕ) → ds ≡ missing_from t 2 (imports_in read) → (ds ≡ [] → ⊥) → f ≡ unwrap_or low n → new.results ≡ old.results ++ result_of a.0 how.Graph ds None ∷ []
+  pub next_graph : (new : Done) (ds : List Diag) (f : ℕ) → ds ≡ missing_among t (imports_in read) → (ds ≡ [] → ⊥) → f ≡ unwrap_or low n → new.results ≡ old.results ++ result_of a.0 how.Graph ds None ∷ []
       → new.contents.items ≡ old.contents.items ++ empty_content ∷ [] → new.firsts.items ≡ old.firsts.items ++ Some f ∷ [] → IsNext new × (is_checked (judged_next t a n).how ≡ 0)
   next_graph new [] f e some first rs cs fs = absurd (some refl)
   next_graph new (d ∷ ds) f e some first rs cs fs =
@@ -229,7 +244,7 @@ module _ (t : PlainTree) (fine : IsStanding t) (places : Places) (right : ArePla
       (f.0, f.1, ap (place_node t.sources) e ∙ ap (λ o. option_map_or (λ (q : Node × List ℕ). Some q.0) o None) f.1)
 
   -- a blocked node
-  pub next_blocked : (new : Done) (p : ℕ) → missing_from t 2 (imports_in read) ≡ [] → low ≡ Some p → new.results ≡ old.results ++ result_of a.0 (how.Blocked (record { 0 = p })) [] None ∷ []
+  pub next_blocked : (new : Done) (p : ℕ) → missing_among t (imports_in read) ≡ [] → low ≡ Some p → new.results ≡ old.results ++ result_of a.0 (how.Blocked (record { 0 = p })) [] None ∷ []
       → new.contents.items ≡ old.contents.items ++ empty_content ∷ [] → new.firsts.items ≡ old.firsts.items ++ Some p ∷ [] → IsNext new × (is_checked (judged_next t a n).how ≡ 0)
   next_blocked new p e l rs cs fs =
       let k = place_known p l in
@@ -250,12 +265,12 @@ module _ (t : PlainTree) (fine : IsStanding t) (places : Places) (right : ArePla
   abbrev given : List Content
   given = contents_at old.contents.items (import_places places (imports_in read))
 
-  module _ (none : missing_from t 2 (imports_in read) ≡ []) (sound : low ≡ None) where
+  module _ (none : missing_among t (imports_in read) ≡ []) (sound : low ≡ None) where
     -- each import's content is kept, and it is what the language's check is given
-    all_offered : (y : List ℕ) → IsIn y (imports_in read) → IsOffered places old.contents.items offers y
+    all_offered : (y : Word) → IsIn y (imports_in read) → IsOffered places old.contents.items offers y.text
     all_offered y i =
-        let c : Node = node_named y false in
-        let p = import_there t places 2 (imports_in read) right none y i in
+        let c : Node = node_named y.text false in
+        let p = import_there t places (imports_in read) right none y i in
         let there : has_node t c ≡ true = node_at t.sources p.0 (c, p.1) p.3 in
         let own : List Node = cond a.0.boot [] (node_named a.0.module.text true ∷ []) in
         let lead : IsIn c (leads_to t a.0) = in_back_map own (imports_of t a.0) y (subst (IsIn y) (sym imports_are) i) in
@@ -294,17 +309,20 @@ module _ (t : PlainTree) (fine : IsStanding t) (places : Places) (right : ArePla
         (record { how = Checked NoInterface; outcome = of_check (check_reading t.settings.unit a.0 read offers) })) (bad_is ∙ ap (place_node t.sources) sound)
         ∙ ap (λ r. record { how = Checked NoInterface; outcome = of_check r }) (check_is t.settings.unit a.0 read offers given imported_is ∙ ap outcome_of (sym e))
 
-    -- what a sound node offers has its interface
-    pub has_interface : (c : Content) → checked.Sound c ≡ checked_of t.settings.unit a.0.module.text read given → IsSmall read → IsSound t.settings.unit c × Fits t.settings.unit c × (c.module ≡ a.0.module.text)
-    has_interface c e small = sound_read t.settings.unit a.0.module.text read given c e fine.unit (short_name t fine n a here) (short_at (λ (c : Content). length c.module ≤ 1048576) old.contents.items (import_places places (imports_in read)) done.small) small
+    small_read : AreSmall 1048576 1048576 read
+    small_read = small_more (length a.1) read (short_source t fine n a here) (reading_small t.settings a.0 a.1)
 
-    pub next_sound : (new : Done) (c : Content) → checked.Sound c ≡ checked_of t.settings.unit a.0.module.text read given → IsSmall read → HasSound t.settings.unit a.0 c old.results new.results
+    -- what a sound node offers has its interface
+    pub has_interface : (c : Content) → checked.Sound c ≡ checked_of t.settings.unit a.0.module.text read given → IsSound t.settings.unit c × Fits t.settings.unit c × (c.module ≡ a.0.module.text)
+    has_interface c e = sound_read t.settings.unit a.0.module.text read given c e fine.unit (short_name t fine n a here) (short_at (λ (c : Content). length c.module ≤ 1048576) old.contents.items (import_places places (imports_in read)) done.small) small_read
+
+    pub next_sound : (new : Done) (c : Content) → checked.Sound c ≡ checked_of t.settings.unit a.0.module.text read given → HasSound t.settings.unit a.0 c old.results new.results
         → new.contents.items ≡ old.contents.items ++ c ∷ [] → new.firsts.items ≡ old.firsts.items ++ None ∷ [] → IsNext new × (is_checked (judged_next t a n).how ≡ 1)
-    next_sound new c e small rs cs fs =
+    next_sound new c e rs cs fs =
         let j : PlainJudged = record { how = Checked NoInterface; outcome = Sound c } in
         let judged : judged_next t a n ≡ j = checked_next (checked.Sound c) e in (
           done_next new (result_of a.0 checked_how [] (Some rs.0)) c None j judged (refl, (refl, refl), (refl, rs.1)) refl
-              (subst (λ m. length m ≤ 1048576) (sym (has_interface c e small).2) (short_name t fine n a here)) (ap (λ o. lesser o None) (sym sound)) rs.2 cs fs,
+              (subst (λ m. length m ≤ 1048576) (sym (has_interface c e).2) (short_name t fine n a here)) (ap (λ o. lesser o None) (sym sound)) rs.2 cs fs,
           ap (λ (i : PlainJudged). is_checked i.how) judged,
         )
 

@@ -1,23 +1,24 @@
 -- A module without diagnostics is sound, and fits its interface.
 use Rattle.std.proofs.Common.{◌≡◌, ℕ, suc, ◌+◌, ◌*◌, ◌≤◌, Bool, true, false, ◌&&◌, List, [], ◌∷◌, ◌++◌, length, map, refl, ap, sym, subst, inl, inr, cond, arith, length-append}
 use Rattle.std.specs.List.{list_any, list_all, flat_map, filter, AllByRecursion}
-use Rattle.std.specs.Prelude.{sum_by, codes}
+use Rattle.std.specs.Prelude.{codes}
 use Rattle.std.proofs.lemmas.List.Sums.{sum_by-cons}
 use Rattle.std.proofs.lemmas.Slice.Eq.{bytes_eq-Decides}
 use Rattle.mk_base.specs.declared.name.Name.{Name}
 use Rattle.mk_base.specs.declared.name.Space.TheVariants.{Ty}
 use Rattle.mk_base.specs.declared.diag.Diag.{Diag}
 use Rattle.build_theory.specs.Laws.{IsIn}
-use Rattle.build_theory.proofs.Lists.{both_ways, clash, any_of, and_both, in_back, all_map}
-use Rattle.plain_form.specs.declared.form.DataLine.{DataLine}
+use Rattle.build_theory.proofs.Lists.{both_ways, clash, any_of, and_both, in_back}
+use Rattle.plain_form.specs.declared.form.Word.{Word}
+use Rattle.plain_form.specs.declared.form.DataItem.{DataItem}
 use Rattle.plain_form.specs.declared.form.Written.{Written}
-use Rattle.plain_form.specs.Form.{is_small, line_text, OfData}
 use Rattle.plain_form.specs.Words.{same_text}
 use Rattle.plain_scope.specs.declared.scope.DataDecl.{DataDecl}
 use Rattle.plain_scope.specs.declared.scope.Content.{Content}
 use Rattle.plain_scope.specs.declared.scope.Checked.TheVariants.{Sound}
-use Rattle.plain_scope.specs.Scope.{same_space, exports_of, brought, heads, content_heads, scope, referred, same_entity, Pair, Use, Missing, Ambiguous, Found, use_of, use_at, twice_diags, field_diags, data_diags, datas_diags, first_data_line, scope_diags, found_names, resolved, content_of, with_diags, check_of, diag_at}
+use Rattle.plain_scope.specs.Scope.{same_space, exports_of, brought, heads, content_heads, scope, referred, same_entity, Pair, Use, Missing, Ambiguous, Found, use_of, use_at, twice_diags, field_diags, data_diags, datas_diags, scope_diags, found_names, resolved, content_of, with_diags, check_of, diag_at}
 use Rattle.plain_face.specs.Interface.{AreBefore, names_in, IsSound, Fits}
+use Rattle.plain_build.proofs.Weights.{IsShortWord, IsShortItem, IsSmall, fields_in}
 
 with_no_diags : (c d : Content) (ds : List Diag) → with_diags c ds ≡ Sound d → (ds ≡ []) × (d ≡ c)
 with_no_diags c d [] e = (refl, (let h : d ≡ c = cc in h))
@@ -43,34 +44,33 @@ text_itself : (a b : List ℕ) → a ≡ b → same_text b a ≡ true
 text_itself a b e = (bytes_eq-Decides b a).1 (sym e)
 
 -- a word that is not defined twice is none of those before it
-new_word : (words : List (List ℕ)) (line col : ℕ) (text other : List ℕ) → twice_diags line col text words ≡ [] → IsIn other words → other ≡ text → ⊥
-new_word words line col text other e i s =
-    let none : list_any (same_text text) words ≡ false = not_twice (list_any (same_text text) words) (diag_at line col 23 (text ++ codes " is defined twice")) e in
-    clash (list_any (same_text text) words) (any_of (same_text text) words other i (text_itself other text s)) none
+new_word : (words : List (List ℕ)) (w : Word) (other : List ℕ) → twice_diags w words ≡ [] → IsIn other words → other ≡ w.text → ⊥
+new_word words w other e i s =
+    let none : list_any (same_text w.text) words ≡ false = not_twice (list_any (same_text w.text) words) (diag_at w.at 23 (w.text ++ codes " is defined twice")) e in
+    clash (list_any (same_text w.text) words) (any_of (same_text w.text) words other i (text_itself other w.text s)) none
 
-abbrev AreOther : DataLine → DataLine → Type 0
-AreOther a b = (a.ty ≡ b.ty → ⊥) × (a.con ≡ b.con → ⊥)
+abbrev AreOther : DataItem → DataItem → Type 0
+AreOther a b = (a.ty.text ≡ b.ty.text → ⊥) × (a.con.text ≡ b.con.text → ⊥)
 
-head_other : (pairs : List Pair) (line : ℕ) (before : List DataLine) (d e : DataLine) → data_diags pairs line before d ≡ [] → IsIn e before → AreOther e d
-head_other pairs line before d e none i =
-    let s = first_empty (twice_diags line 6 d.ty (map (λ (e : DataLine). e.ty) before))
-    (twice_diags line (6 + (length d.ty + 3)) d.con (map (λ (e : DataLine). e.con) before) ++ field_diags pairs line (6 + (length d.ty + (3 + (length d.con + 1)))) d.fields) none in
-    let r = first_empty (twice_diags line (6 + (length d.ty + 3)) d.con (map (λ (e : DataLine). e.con) before)) (field_diags pairs line (6 + (length d.ty + (3 + (length d.con + 1)))) d.fields) s.1 in (
-      new_word (map (λ (e : DataLine). e.ty) before) line 6 d.ty e.ty s.0 (in_mapped (λ (e : DataLine). e.ty) before e i),
-      new_word (map (λ (e : DataLine). e.con) before) line (6 + (length d.ty + 3)) d.con e.con r.0 (in_mapped (λ (e : DataLine). e.con) before e i),
+head_other : (pairs : List Pair) (before : List DataItem) (d e : DataItem) → data_diags pairs before d ≡ [] → IsIn e before → AreOther e d
+head_other pairs before d e none i =
+    let s = first_empty (twice_diags d.ty (map (λ (e : DataItem). e.ty.text) before)) (twice_diags d.con (map (λ (e : DataItem). e.con.text) before) ++ field_diags pairs d.fields) none in
+    let r = first_empty (twice_diags d.con (map (λ (e : DataItem). e.con.text) before)) (field_diags pairs d.fields) s.1 in (
+      new_word (map (λ (e : DataItem). e.ty.text) before) d.ty e.ty.text s.0 (in_mapped (λ (e : DataItem). e.ty.text) before e i),
+      new_word (map (λ (e : DataItem). e.con.text) before) d.con e.con.text r.0 (in_mapped (λ (e : DataItem). e.con.text) before e i),
     )
 
-others : (pairs : List Pair) (line : ℕ) (before ds : List DataLine) (e : DataLine) → datas_diags pairs line before ds ≡ [] → IsIn e before → AllByRecursion (λ d. AreOther e d) ds
-others pairs line before [] e none i = tt
-others pairs line before (d ∷ ds) e none i =
-    let s = first_empty (data_diags pairs line before d) (datas_diags pairs (line + 1) (before ++ d ∷ []) ds) none in
-    (head_other pairs line before d e s.0 i, others pairs (line + 1) (before ++ d ∷ []) ds e s.1 (in_before before (d ∷ []) e i))
+others : (pairs : List Pair) (before ds : List DataItem) (e : DataItem) → datas_diags pairs before ds ≡ [] → IsIn e before → AllByRecursion (λ d. AreOther e d) ds
+others pairs before [] e none i = tt
+others pairs before (d ∷ ds) e none i =
+    let s = first_empty (data_diags pairs before d) (datas_diags pairs (before ++ d ∷ []) ds) none in
+    (head_other pairs before d e s.0 i, others pairs (before ++ d ∷ []) ds e s.1 (in_before before (d ∷ []) e i))
 
-all_others : (pairs : List Pair) (line : ℕ) (before ds : List DataLine) → datas_diags pairs line before ds ≡ [] → AreBefore AreOther ds
-all_others pairs line before [] none = tt
-all_others pairs line before (d ∷ ds) none =
-    let s = first_empty (data_diags pairs line before d) (datas_diags pairs (line + 1) (before ++ d ∷ []) ds) none in
-    (others pairs (line + 1) (before ++ d ∷ []) ds d s.1 (in_back before d []), all_others pairs (line + 1) (before ++ d ∷ []) ds s.1)
+all_others : (pairs : List Pair) (before ds : List DataItem) → datas_diags pairs before ds ≡ [] → AreBefore AreOther ds
+all_others pairs before [] none = tt
+all_others pairs before (d ∷ ds) none =
+    let s = first_empty (data_diags pairs before d) (datas_diags pairs (before ++ d ∷ []) ds) none in
+    (others pairs (before ++ d ∷ []) ds d s.1 (in_back before d []), all_others pairs (before ++ d ∷ []) ds s.1)
 
 all_mapped : {X Y : Type 0} (f : X → Y) (P : X → Type 0) (Q : Y → Type 0) (xs : List X) → ((x : X) → P x → Q (f x)) → AllByRecursion P xs → AllByRecursion Q (map f xs)
 all_mapped f P Q [] h a = tt
@@ -83,7 +83,7 @@ before_mapped f P Q (x ∷ xs) h a = (all_mapped f (P x) (Q (f x)) xs (h x) a.0,
 sound_content : (unit m : List ℕ) (w : Written) (cs : List Content) → scope_diags unit m w cs ≡ [] → IsSound unit (content_of unit m w cs)
 sound_content unit m w cs none =
     let pairs : List Pair = scope unit m w cs in
-    let apart = all_others pairs (first_data_line w) [] w.datas none in record {
+    let apart = all_others pairs [] w.datas none in record {
       types = before_mapped (resolved pairs) AreOther (λ (a : DataDecl) (b : DataDecl). a.ty ≡ b.ty → ⊥) w.datas (λ x y h. h.0) apart;
       constructors = before_mapped (resolved pairs) AreOther (λ (a : DataDecl) (b : DataDecl). a.con ≡ b.con → ⊥) w.datas (λ x y h. h.1) apart;
     }
@@ -147,23 +147,15 @@ found_length Missing = omega arith
 found_length Ambiguous = omega arith
 found_length (Found e) = omega arith
 
-names_length : (pairs : List Pair) (fs : List (List ℕ)) → length (flat_map (λ f. found_names (use_at pairs f)) fs) ≤ length fs
+abbrev found_at : List Pair → Word → List Name
+found_at pairs f = found_names (use_at pairs f.text)
+
+names_length : (pairs : List Pair) (fs : List Word) → length (flat_map (found_at pairs) fs) ≤ length fs
 names_length pairs [] = omega arith
 names_length pairs (f ∷ fs) =
-    let one : length (found_names (use_at pairs f)) ≤ 1 = found_length (use_at pairs f) in
-    let rest : length (flat_map (λ f. found_names (use_at pairs f)) fs) ≤ length fs = names_length pairs fs in
-    let both : length (found_names (use_at pairs f) ++ flat_map (λ f. found_names (use_at pairs f)) fs) ≡ length (found_names (use_at pairs f)) + length (flat_map (λ f. found_names (use_at pairs f)) fs)
-    = length-append (found_names (use_at pairs f)) (flat_map (λ f. found_names (use_at pairs f)) fs) in
-    omega arith
-
-abbrev words : List (List ℕ) → List ℕ
-words fs = flat_map (λ (f : List ℕ). 32 ∷ f) fs
-
-words_count : (fs : List (List ℕ)) → length fs ≤ length (words fs)
-words_count [] = omega arith
-words_count (f ∷ fs) =
-    let rest : length fs ≤ length (words fs) = words_count fs in
-    let both : length ((32 ∷ f) ++ words fs) ≡ length (32 ∷ f) + length (words fs) = length-append (32 ∷ f) (words fs) in
+    let one : length (found_at pairs f) ≤ 1 = found_length (use_at pairs f.text) in
+    let rest : length (flat_map (found_at pairs) fs) ≤ length fs = names_length pairs fs in
+    let both : length (found_at pairs f ++ flat_map (found_at pairs) fs) ≡ length (found_at pairs f) + length (flat_map (found_at pairs) fs) = length-append (found_at pairs f) (flat_map (found_at pairs) fs) in
     omega arith
 
 abbrev HasFits : Name → Type 0
@@ -173,73 +165,62 @@ named_fits : (f : List ℕ) → length f ≤ 1048576 → (es : List Name) → Al
 named_fits f l [] h = tt
 named_fits f l (e ∷ es) h = ((h.0.0.0, h.0.0.1, subst (λ n. n ≤ 1048576) (ap length (sym h.0.1)) l), named_fits f l es h.1)
 
-fields_fit : (pairs : List Pair) (fs : List (List ℕ)) → AllByRecursion IsShortPair pairs → length (words fs) ≤ 1048576 → AllByRecursion HasFits (flat_map (λ f. found_names (use_at pairs f)) fs)
+fields_fit : (pairs : List Pair) (fs : List Word) → AllByRecursion IsShortPair pairs → AllByRecursion (IsShortWord 1048576) fs → AllByRecursion HasFits (flat_map (found_at pairs) fs)
 fields_fit pairs [] h l = tt
 fields_fit pairs (f ∷ fs) h l =
-    let both : length ((32 ∷ f) ++ words fs) ≡ length (32 ∷ f) + length (words fs) = length-append (32 ∷ f) (words fs) in
-    all_append HasFits (found_names (use_at pairs f)) (flat_map (λ f. found_names (use_at pairs f)) fs)
-    (named_fits f (omega arith) (found_names (use_at pairs f)) (all_found (IsNamed f) (referred pairs f) (all_referred pairs f h)))
-    (fields_fit pairs fs h (omega arith))
+    all_append HasFits (found_at pairs f) (flat_map (found_at pairs) fs)
+    (named_fits f.text l.0 (found_at pairs f) (all_found (IsNamed f.text) (referred pairs f.text) (all_referred pairs f.text h)))
+    (fields_fit pairs fs h l.1)
 
-abbrev LineFits : DataLine → Type 0
-LineFits d = (length d.ty ≤ 1048576) × (length d.con ≤ 1048576) × (length (words d.fields) ≤ 1048576)
+abbrev ItemFits : DataItem → Type 0
+ItemFits d = IsShortItem 1048576 d × (length d.fields ≤ 1048576)
 
-line_fits : (d : DataLine) → length (line_text (OfData d)) ≤ 1048576 → LineFits d
-line_fits d h =
-    let a : length (codes "data " ++ (d.ty ++ (codes " = " ++ (d.con ++ words d.fields)))) ≡ length (codes "data ") + length (d.ty ++ (codes " = " ++ (d.con ++ words d.fields))) = length-append (codes "data ") (d.ty ++ (codes " = " ++ (d.con ++ words d.fields))) in
-    let b : length (d.ty ++ (codes " = " ++ (d.con ++ words d.fields))) ≡ length d.ty + length (codes " = " ++ (d.con ++ words d.fields)) = length-append d.ty (codes " = " ++ (d.con ++ words d.fields)) in
-    let e : length (codes " = " ++ (d.con ++ words d.fields)) ≡ length (codes " = ") + length (d.con ++ words d.fields) = length-append (codes " = ") (d.con ++ words d.fields) in
-    let f : length (d.con ++ words d.fields) ≡ length d.con + length (words d.fields) = length-append d.con (words d.fields) in
-    (omega arith, omega arith, omega arith)
+items_fit : (ds : List DataItem) → AllByRecursion (IsShortItem 1048576) ds → fields_in ds ≤ 1048576 → AllByRecursion ItemFits ds
+items_fit [] h l = tt
+items_fit (d ∷ ds) h l =
+    let sum : fields_in (d ∷ ds) ≡ length d.fields + fields_in ds = sum_by-cons (λ (d : DataItem). length d.fields) d ds in
+    ((h.0, omega arith), items_fit ds h.1 (omega arith))
 
-lines_fit : (ds : List DataLine) → AllByRecursion (λ (d : DataLine). length (line_text (OfData d)) ≤ 1048576) ds → AllByRecursion LineFits ds
-lines_fit ds h = all_map (λ (d : DataLine). length (line_text (OfData d)) ≤ 1048576) LineFits ds (λ d l. line_fits d l) h
-
-decl_fits : (pairs : List Pair) (d : DataLine) → LineFits d → (length d.ty ≤ 1048576) × (length d.con ≤ 1048576) × (length (flat_map (λ f. found_names (use_at pairs f)) d.fields) ≤ 1048576)
+decl_fits : (pairs : List Pair) (d : DataItem) → ItemFits d → (length d.ty.text ≤ 1048576) × (length d.con.text ≤ 1048576) × (length (flat_map (found_at pairs) d.fields) ≤ 1048576)
 decl_fits pairs d h =
-    let n : length (flat_map (λ f. found_names (use_at pairs f)) d.fields) ≤ length d.fields = names_length pairs d.fields in
-    let w : length d.fields ≤ length (words d.fields) = words_count d.fields in
-    let l : length (words d.fields) ≤ 1048576 = h.2 in
-    (h.0, h.1, omega arith)
+    let n : length (flat_map (found_at pairs) d.fields) ≤ length d.fields = names_length pairs d.fields in
+    let l : length d.fields ≤ 1048576 = h.1 in
+    (h.0.0, h.0.1, omega arith)
 
 length_mapped : {X Y : Type 0} (f : X → Y) (xs : List X) → length (map f xs) ≡ length xs
 length_mapped f [] = refl
 length_mapped f (x ∷ xs) = ap suc (length_mapped f xs)
 
-abbrev fields_in : List DataLine → ℕ
-fields_in ds = sum_by (λ (d : DataLine). length d.fields) ds
-
-names_count : (unit m : List ℕ) (pairs : List Pair) (ds : List DataLine) → length (names_in unit (record { «module» = m; datas = map (resolved pairs) ds })) ≤ 2 * length ds + fields_in ds
+names_count : (unit m : List ℕ) (pairs : List Pair) (ds : List DataItem) → length (names_in unit (record { «module» = m; datas = map (resolved pairs) ds })) ≤ 2 * length ds + fields_in ds
 names_count unit m pairs [] = omega arith
 names_count unit m pairs (d ∷ ds) =
-    let fs : List Name = flat_map (λ f. found_names (use_at pairs f)) d.fields in
+    let fs : List Name = flat_map (found_at pairs) d.fields in
     let rest : List Name = names_in unit (record { «module» = m; datas = map (resolved pairs) ds }) in
     let n : length fs ≤ length d.fields = names_length pairs d.fields in
     let k : length rest ≤ 2 * length ds + fields_in ds = names_count unit m pairs ds in
     let both : length (fs ++ rest) ≡ length fs + length rest = length-append fs rest in
-    let sum : fields_in (d ∷ ds) ≡ length d.fields + fields_in ds = sum_by-cons (λ (d : DataLine). length d.fields) d ds in
+    let sum : fields_in (d ∷ ds) ≡ length d.fields + fields_in ds = sum_by-cons (λ (d : DataItem). length d.fields) d ds in
     let all : length (names_in unit (record { «module» = m; datas = map (resolved pairs) (d ∷ ds) })) ≡ suc (suc (length (fs ++ rest))) = refl in
     omega (arith, sum, all, both, n, k)
 
-fits_content : (unit m : List ℕ) (w : Written) (cs : List Content) → length unit ≤ 64 → length m ≤ 1048576 → AllByRecursion (λ (c : Content). length c.module ≤ 1048576) cs → is_small w → Fits unit (content_of unit m w cs)
+fits_content : (unit m : List ℕ) (w : Written) (cs : List Content) → length unit ≤ 64 → length m ≤ 1048576 → AllByRecursion (λ (c : Content). length c.module ≤ 1048576) cs → IsSmall 1048576 1048576 w → Fits unit (content_of unit m w cs)
 fits_content unit m w cs u v h small =
     let pairs : List Pair = scope unit m w cs in
     let short = all_scope unit m w cs u v h in
-    let fit = lines_fit w.datas small.1 in
     let count : length (map (resolved pairs) w.datas) ≡ length w.datas = length_mapped (resolved pairs) w.datas in
-    let few : length w.imports + length w.datas ≤ 1048576 = small.0 in
-    let all : fields_in w.datas ≤ 1048576 = small.2 in
+    let few : length w.imports + (2 * length w.datas + fields_in w.datas) ≤ 1048576 = small.0 in
+    let fit = items_fit w.datas small.1 (omega arith) in
     let names : length (names_in unit (content_of unit m w cs)) ≤ 2 * length w.datas + fields_in w.datas = names_count unit m pairs w.datas in record {
       unit_fits = u;
       module_fits = v;
       count_fits = omega arith;
-      types_fit = all_mapped (resolved pairs) LineFits (λ (d : DataDecl). (length d.ty ≤ 1048576) × (length d.con ≤ 1048576) × (length d.fields ≤ 1048576)) w.datas (λ d l. decl_fits pairs d l) fit;
-      names_fit = all_mapped (resolved pairs) LineFits (λ (d : DataDecl). AllByRecursion HasFits d.fields) w.datas (λ d l. fields_fit pairs d.fields short l.2) fit;
+      types_fit = all_mapped (resolved pairs) ItemFits (λ (d : DataDecl). (length d.ty ≤ 1048576) × (length d.con ≤ 1048576) × (length d.fields ≤ 1048576)) w.datas (λ d l. decl_fits pairs d l) fit;
+      names_fit = all_mapped (resolved pairs) ItemFits (λ (d : DataDecl). AllByRecursion HasFits d.fields) w.datas (λ d l. fields_fit pairs d.fields short l.0.2) fit;
       all_fit = omega arith;
     }
 
 -- a module that is checked without diagnostics
-pub sound_fits : (unit m : List ℕ) (w : Written) (cs : List Content) (c : Content) → check_of unit m w cs ≡ Sound c → length unit ≤ 64 → length m ≤ 1048576 → AllByRecursion (λ (c : Content). length c.module ≤ 1048576) cs → is_small w
+pub sound_fits : (unit m : List ℕ) (w : Written) (cs : List Content) (c : Content) → check_of unit m w cs ≡ Sound c → length unit ≤ 64 → length m ≤ 1048576 → AllByRecursion (λ (c : Content). length c.module ≤ 1048576) cs → IsSmall 1048576 1048576 w
     → IsSound unit c × Fits unit c × (c.module ≡ m)
 sound_fits unit m w cs c e u v h small =
     let s = with_no_diags (content_of unit m w cs) c (scope_diags unit m w cs) e in

@@ -6,15 +6,15 @@ use Rattle.std.specs.List.{AllByRecursion}
 use Rattle.mk_base.specs.declared.name.Node.{Node}
 use Rattle.mk_base.specs.declared.diag.Diag.{Diag}
 use Rattle.build_theory.specs.Build.{Outcome, Sound, outcomes, is_sound, sorted, order, results, step}
-use Rattle.plain_form.specs.declared.form.Reading.{Reading}
-use Rattle.plain_form.specs.declared.form.Reading.TheVariants.{Form, Leaves}
 use Rattle.plain_scope.specs.declared.scope.Content.{Content}
 use Rattle.plain_scope.specs.declared.scope.Checked.{Checked}
 use Rattle.plain_scope.specs.declared.scope.Checked.TheVariants.{Wrong}
 use Rattle.plain_scope.specs.Scope.{check_of}
 use Rattle.plain_build.specs.declared.build.PlainBuild.{PlainBuild}
 use Rattle.plain_build.specs.declared.done.Done.{Done}
-use Rattle.plain_build.specs.Plain.{PlainTree, plain, same_node, less_node, reaches, unbuilt}
+use Rattle.plain_build.specs.declared.reading.SourceReading.{SourceReading}
+use Rattle.plain_build.specs.declared.reading.SourceReading.TheVariants.{Whole, Refused}
+use Rattle.plain_build.specs.Plain.{PlainTree, plain, same_node, less_node, reaches}
 use Rattle.plain_build.specs.Result.{PlainJudged, AreResults, tree_of}
 
 -- the tree that is built, with its sources by node
@@ -82,6 +82,6 @@ pub record IsDone (t : PlainTree) (done : Done) (n : ℕ) : Type 0 where
   pub firsts : AreFirsts t (judged_before t n) done.firsts.items
 
 -- the check of what was read, with the contents of the imports
-abbrev pub checked_of : List ℕ → List ℕ → Reading → List Content → Checked
-checked_of unit m (Form w) cs = check_of unit m w cs
-checked_of unit m (Leaves k) cs = Wrong (unbuilt k ∷ [])
+abbrev pub checked_of : List ℕ → List ℕ → SourceReading → List Content → Checked
+checked_of unit m (Whole w) cs = check_of unit m w cs
+checked_of unit m (Refused d) cs = Wrong (d ∷ [])

@@ -5,6 +5,7 @@ use Rattle.std.specs.List.{list_any, flat_map}
 use Rattle.indexmap.specs.IndexMap.{get}
 use Rattle.mk_base.specs.declared.name.Node.{Node}
 use Rattle.mk_base.specs.declared.diag.Diag.{Diag}
+use Rattle.plain_form.specs.declared.form.Word.{Word}
 use Rattle.plain_form.specs.Words.{same_text}
 use Rattle.plain_scope.specs.Scope.{diag_at}
 use Rattle.plain_build.specs.declared.places.Places.{Places}
@@ -27,20 +28,20 @@ IsPlace qs n (Some i) = (s : List ℕ) × (slice_get qs i ≡ Some (n, s))
 abbrev pub ArePlaces : Places → List (Node × List ℕ) → Type 0
 ArePlaces p qs = (boot : Bool) (m : List ℕ) → IsPlace qs (node_named m boot) (place_in p boot m)
 
-abbrev pub not_found : ℕ → List ℕ → Diag
-not_found line y = diag_at line 8 10 (codes "module " ++ (y ++ codes " not found"))
+abbrev pub not_found : Word → Diag
+not_found y = diag_at y.at 10 (codes "module " ++ (y.text ++ codes " not found"))
 
 -- the diagnostics of an import of the module at this place
-abbrev pub missing_in : Option ℕ → ℕ → List ℕ → List Diag
-missing_in (Some i) line y = []
-missing_in None line y = not_found line y ∷ []
+abbrev pub missing_in : Option ℕ → Word → List Diag
+missing_in (Some i) y = []
+missing_in None y = not_found y ∷ []
 
 abbrev pub one_place : Option ℕ → List ℕ
 one_place (Some i) = i ∷ []
 one_place None = []
 
-abbrev pub import_places : Places → List (List ℕ) → List ℕ
-import_places p ys = flat_map (λ y. one_place (place_in p false y)) ys
+abbrev pub import_places : Places → List Word → List ℕ
+import_places p ys = flat_map (λ (y : Word). one_place (place_in p false y.text)) ys
 
 abbrev pub lesser : Option ℕ → Option ℕ → Option ℕ
 lesser None b = b
@@ -64,13 +65,13 @@ place_or None b = b
 abbrev pub import_place : Places → List ℕ → Option ℕ
 import_place p y = place_or (place_in p false y) (place_in p true y)
 
-abbrev pub first_of_imports : Places → List (Option ℕ) → List (List ℕ) → Option ℕ
+abbrev pub first_of_imports : Places → List (Option ℕ) → List Word → Option ℕ
 first_of_imports p firsts [] = None
-first_of_imports p firsts (y ∷ ys) = lesser (first_from firsts (import_place p y)) (first_of_imports p firsts ys)
+first_of_imports p firsts (y ∷ ys) = lesser (first_from firsts (import_place p y.text)) (first_of_imports p firsts ys)
 
 abbrev pub first_of_boot : Places → List (Option ℕ) → Node → Option ℕ
 first_of_boot p firsts n = if n.boot then None else first_from firsts (place_in p true n.module.text)
 
 -- the first that isn't sound among the needs of a node, from what is kept of the nodes before it
-abbrev pub first_below : Places → List (Option ℕ) → Node → List (List ℕ) → Option ℕ
+abbrev pub first_below : Places → List (Option ℕ) → Node → List Word → Option ℕ
 first_below p firsts n ys = lesser (first_of_boot p firsts n) (first_of_imports p firsts ys)

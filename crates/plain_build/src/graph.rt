@@ -1,7 +1,6 @@
 //! A node's steps to the nodes that it needs.
-ghost use Rattle.std.specs.Prelude.{◌≡◌, ◌≤◌, ◌++◌, false, IfOk, OnOk, length};
-ghost use Rattle.std.specs.List.{flat_map};
-ghost use Rattle.plain_build.specs.Plain.{PlainTree, missing_from};
+ghost use Rattle.std.specs.Prelude.{◌≡◌, ◌++◌, false, IfOk, OnOk};
+ghost use Rattle.plain_build.specs.Plain.{PlainTree, missing_among};
 ghost use Rattle.plain_build.specs.Steps as spec;
 ghost use Rattle.plain_build.specs.Steps.{ArePlaces};
 
@@ -10,49 +9,45 @@ use mk_base::diag::Diag;
 use mk_base::list::List;
 use mk_base::memory::NoMemory;
 use mk_base::name::Node;
-use mk_base::place::Pos;
 use mk_base::text::Text;
+use plain_form::form::Word;
 use std::alloc::Global;
 
-fn not_found(alloc: Global, line: u32, import: &Text) -> Result<Diag, NoMemory>
-    ensures { IfOk result (λ d. d ≡ spec.not_found line import.now) }
+fn not_found(alloc: Global, import: &Word) -> Result<Diag, NoMemory>
+    ensures { IfOk result (λ d. d ≡ spec.not_found import.now) }
 {
     let mut text = Text::from_slice(alloc, b"module ")?;
-    text.push_slice(import.as_slice())?;
+    text.push_slice(import.text.as_slice())?;
     text.push_slice(b" not found")?;
-    let at = Pos { line, col: 8 };
+    let at = import.at;
     Ok(Diag { at, code: 10, text })
 }
 
 fn push_missing(
     alloc: Global,
     places: &Places,
-    line: u32,
-    import: &Text,
+    import: &Word,
     diags: &mut List<Diag>,
 ) -> Result<(), NoMemory>
-    ensures { OnOk result (diags.new ≡ diags.old ++ spec.missing_in (spec.place_in places.now false import.now) line import.now) }
+    ensures { OnOk result (diags.new ≡ diags.old ++ spec.missing_in (spec.place_in places.now false import.now.text) import.now) }
 {
-    match place_of(places, false, import) {
+    match place_of(places, false, &import.text) {
         Some(_) => Ok(()),
-        None => diags.push(not_found(alloc, line, import)?),
+        None => diags.push(not_found(alloc, import)?),
     }
 }
 
-/// The diagnostics of the graph stage: each import of a module that has no source.
+/// The diagnostics of the graph stage: each import of a module that has no source, at the module's name.
 pub fn missing_imports(
     alloc: Global,
     places: &Places,
-    imports: &[Text],
+    imports: &[Word],
 ) -> Result<List<Diag>, NoMemory>
-    requires { length imports.now ≤ 1048576 }
-    ensures { IfOk result (λ ds. (t : PlainTree) → ArePlaces places.now t.sources → ds ≡ missing_from t 2 imports.now) }
+    ensures { IfOk result (λ ds. (t : PlainTree) → ArePlaces places.now t.sources → ds ≡ missing_among t imports.now) }
 {
     let mut diags = List::new(alloc);
-    let mut line = 2;
     for import in imports {
-        push_missing(alloc, places, line, import, &mut diags)?;
-        line += 1;
+        push_missing(alloc, places, import, &mut diags)?;
     }
     Ok(diags)
 }
@@ -61,13 +56,13 @@ pub fn missing_imports(
 pub fn import_places(
     alloc: Global,
     places: &Places,
-    imports: &[Text],
+    imports: &[Word],
 ) -> Result<Vec<usize>, NoMemory>
     ensures { IfOk result (λ v. v.items ≡ spec.import_places places.now imports.now) }
 {
     let mut found = Vec::new(alloc);
     for import in imports {
-        if let Some(place) = place_of(places, false, import) {
+        if let Some(place) = place_of(places, false, &import.text) {
             found.push(place)?;
         }
     }
@@ -110,7 +105,7 @@ pub fn first_below(
     places: &Places,
     firsts: &[Option<u32>],
     node: &Node,
-    imports: &[Text],
+    imports: &[Word],
 ) -> Option<u32>
     ensures { result ≡ spec.first_below places.now firsts.now node.now imports.now }
 {
@@ -119,7 +114,10 @@ pub fn first_below(
         first = first_from(firsts, place_of(places, true, &node.module.text));
     }
     for import in imports {
-        first = lesser(first, first_from(firsts, import_place(places, import)));
+        first = lesser(
+            first,
+            first_from(firsts, import_place(places, &import.text)),
+        );
     }
     first
 }

@@ -1,9 +1,8 @@
 //! The build of one node, behind those before it.
 ghost use Rattle.std.specs.Prelude.{◌≡◌, ◌∷◌, [], ◌+◌, ◌<◌, ◌≤◌, ◌^◌, Some, None, IfOk, OnOk, length, slice_get};
 ghost use Rattle.std.specs.List.{AllByRecursion};
-ghost use Rattle.plain_form.specs.Form.{IsSmall};
 ghost use Rattle.plain_scope.specs.Scope.{contents_at};
-ghost use Rattle.plain_build.specs.Plain.{imports_in, missing_from};
+ghost use Rattle.plain_build.specs.Plain.{imports_in, missing_among};
 ghost use Rattle.plain_build.specs.Plain as spec;
 ghost use Rattle.plain_build.specs.Result.{is_checked};
 ghost use Rattle.plain_build.specs.Steps.{ArePlaces};
@@ -14,29 +13,23 @@ use crate::build::PlainBuild;
 use crate::done::{Done, how_checked, put_sound, put_unsound};
 use crate::graph::{first_below, import_places, missing_imports};
 use crate::places::Places;
-use crate::reading::{imports_of, read_node};
+use crate::reading::{SourceReading, imports_of, read_node};
 use crate::sources::Source;
 use face_model::result::How;
 use mk_base::diag::Diag;
 use mk_base::list::List;
 use mk_base::memory::NoMemory;
-use mk_base::place::{NodeId, Pos};
+use mk_base::place::NodeId;
 use mk_base::steps::{Ledger, Steps};
-use mk_base::text::Text;
-use plain_form::form::Reading;
 use plain_scope::scope::{Checked, Content, check};
 use std::alloc::Global;
 
-/// What the line of a source that leaves the form is told.
-fn unbuilt(alloc: Global, line: u32) -> Result<List<Diag>, NoMemory>
-    ensures { IfOk result (λ ds. ds ≡ spec.unbuilt line ∷ []) }
+/// A list of this diagnostic alone.
+fn only(alloc: Global, diag: &Diag) -> Result<List<Diag>, NoMemory>
+    ensures { IfOk result (λ ds. ds ≡ diag.now ∷ []) }
 {
     let mut diags = List::new(alloc);
-    diags.push(Diag {
-        at: Pos { line, col: 1 },
-        code: 0,
-        text: Text::from_slice(alloc, b"this form is not built yet")?,
-    })?;
+    diags.push(diag.copy(alloc)?)?;
     Ok(diags)
 }
 
@@ -45,17 +38,16 @@ fn check_read(
     alloc: Global,
     unit: &[u8],
     name: &[u8],
-    reading: &Reading,
+    reading: &SourceReading,
     contents: &[Content],
     imports: &[usize],
 ) -> Result<Checked, NoMemory>
-    requires small { IsSmall reading.now }
     requires within { AllByRecursion (λ i. i < length contents.now) imports.now }
     ensures { IfOk result (λ c. c ≡ checked_of unit.now name.now reading.now (contents_at contents.now imports.now)) }
 {
     match reading {
-        Reading::Form(written) => check(alloc, unit, name, written, contents, imports),
-        Reading::Leaves(line) => Ok(Checked::Wrong(unbuilt(alloc, *line)?)),
+        SourceReading::Whole(written) => check(alloc, unit, name, written, contents, imports),
+        SourceReading::Refused(diag) => Ok(Checked::Wrong(only(alloc, diag)?)),
     }
 }
 
@@ -66,7 +58,7 @@ fn build_checked(
     places: &Places,
     source: &Source<'_>,
     place: u32,
-    reading: &Reading,
+    reading: &SourceReading,
     done: &mut Done,
 ) -> Result<(), NoMemory>
     requires standing { IsStanding (sorted_tree input.now) }
@@ -74,8 +66,7 @@ fn build_checked(
     requires source { slice_get (sorted_tree input.now).sources place ≡ Some (source.now.node, source.now.bytes.now) }
     requires done { IsDone (sorted_tree input.now) done.old place }
     requires reading { reading.now ≡ spec.reading (sorted_tree input.now).settings source.now.node source.now.bytes.now }
-    requires small { IsSmall reading.now }
-    requires found { missing_from (sorted_tree input.now) 2 (imports_in reading.now) ≡ [] }
+    requires found { missing_among (sorted_tree input.now) (imports_in reading.now) ≡ [] }
     requires sound { steps_of.first_below places.now done.old.firsts.items source.now.node (imports_in reading.now) ≡ None }
     ensures done { OnOk result (IsDone (sorted_tree input.now) done.new (place + 1)) }
     ensures checked { OnOk result (is_checked (judged_next (sorted_tree input.now) (source.now.node, source.now.bytes.now) place).how ≡ 1) }

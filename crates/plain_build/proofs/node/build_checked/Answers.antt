@@ -13,15 +13,17 @@ use Rattle.plain_build.specs.Done.{IsDone, judged_next, checked_of, sorted_tree}
 use Rattle.plain_build.proofs.Exits.{within_exit, offer_exit, sound_exit, wrong_exit, tree_unit, on_three, given_is}
 use Rattle.plain_build.proofs.node.build_checked.Goals as goal
 
-pub check_read-requires-clause-within : goal.check_read-requires-clause-within
-check_read-requires-clause-within c =
+pub check_read-requires : goal.check_read-requires
+check_read-requires c =
     let t : PlainTree = sorted_tree c.args.input.now in
     let a : Node × List ℕ = (c.args.source.now.node, c.args.source.now.bytes.now) in
     let all = within_exit t c.requires.standing c.args.places.now c.requires.places c.args.place a c.requires.source c.args.done.now c.requires.done c.args.reading.now c.requires.reading c.requires.found c.requires.sound in
     let is : c.as_slice.result.now ≡ import_places c.args.places.now (imports_in c.args.reading.now) =
     c.as_slice.ensures.value ∙ c.in_ok-imports.ensures ∙ ap (import_places c.args.places.now) c.imports_of.ensures in
-    subst (λ (l : List ℕ). AllByRecursion (λ i. i < length c.as_slice-contents.result.now) l) (sym is)
-    (subst (λ (cs : List Content). AllByRecursion (λ i. i < length cs) (import_places c.args.places.now (imports_in c.args.reading.now))) (sym c.as_slice-contents.ensures.value) all)
+    record {
+      within = subst (λ (l : List ℕ). AllByRecursion (λ i. i < length c.as_slice-contents.result.now) l) (sym is)
+          (subst (λ (cs : List Content). AllByRecursion (λ i. i < length cs) (import_places c.args.places.now (imports_in c.args.reading.now))) (sym c.as_slice-contents.ensures.value) all);
+    }
 
 pub put_sound-requires-clause-sound : goal.put_sound-requires-clause-sound
 put_sound-requires-clause-sound c =
@@ -32,7 +34,7 @@ put_sound-requires-clause-sound c =
     c.as_slice.ensures.value ∙ c.in_ok-imports.ensures ∙ ap (import_places c.args.places.now) c.imports_of.ensures in
     let told : Sound c.in-Sound.content ≡ checked_of t.settings.unit a.0.module.text c.args.reading.now (contents_at c.args.done.now.contents.items (import_places c.args.places.now (imports_in c.args.reading.now))) =
     sym c.in-Sound.is ∙ given_is c.in_ok-content.field-0 _ _ _ _ c.args.reading.now _ _ _ _ c.in_ok-content.ensures unit c.as_slice-name.ensures c.as_slice-contents.ensures.value is in
-    let all = offer_exit t c.requires.standing c.args.places.now c.requires.places c.args.place a c.requires.source c.args.done.now c.requires.done c.args.reading.now c.requires.reading c.requires.found c.requires.sound c.in-Sound.content told c.requires.small in
+    let all = offer_exit t c.requires.standing c.args.places.now c.requires.places c.args.place a c.requires.source c.args.done.now c.requires.done c.args.reading.now c.requires.reading c.requires.found c.requires.sound c.in-Sound.content told in
     subst (λ (u : List ℕ). IsSound u c.in-Sound.content) (sym unit) all.0
 
 pub put_sound-requires-clause-fits : goal.put_sound-requires-clause-fits
@@ -44,7 +46,7 @@ put_sound-requires-clause-fits c =
     c.as_slice.ensures.value ∙ c.in_ok-imports.ensures ∙ ap (import_places c.args.places.now) c.imports_of.ensures in
     let told : Sound c.in-Sound.content ≡ checked_of t.settings.unit a.0.module.text c.args.reading.now (contents_at c.args.done.now.contents.items (import_places c.args.places.now (imports_in c.args.reading.now))) =
     sym c.in-Sound.is ∙ given_is c.in_ok-content.field-0 _ _ _ _ c.args.reading.now _ _ _ _ c.in_ok-content.ensures unit c.as_slice-name.ensures c.as_slice-contents.ensures.value is in
-    let all = offer_exit t c.requires.standing c.args.places.now c.requires.places c.args.place a c.requires.source c.args.done.now c.requires.done c.args.reading.now c.requires.reading c.requires.found c.requires.sound c.in-Sound.content told c.requires.small in
+    let all = offer_exit t c.requires.standing c.args.places.now c.requires.places c.args.place a c.requires.source c.args.done.now c.requires.done c.args.reading.now c.requires.reading c.requires.found c.requires.sound c.in-Sound.content told in
     subst (λ (u : List ℕ). Fits u c.in-Sound.content) (sym unit) all.1
 
 pub returns-in-Sound : goal.returns-in-Sound
@@ -57,7 +59,7 @@ returns-in-Sound c =
     let told : Sound c.in-Sound.content ≡ checked_of t.settings.unit a.0.module.text c.args.reading.now (contents_at c.args.done.now.contents.items (import_places c.args.places.now (imports_in c.args.reading.now))) =
     sym c.in-Sound.is ∙ given_is c.in_ok-content.field-0 _ _ _ _ c.args.reading.now _ _ _ _ c.in_ok-content.ensures unit c.as_slice-name.ensures c.as_slice-contents.ensures.value is in
     let new = c.put_sound.new.done in
-    let exit = sound_exit t c.requires.standing c.args.places.now c.requires.places c.args.place a c.requires.source c.args.done.now c.requires.done c.args.reading.now c.requires.reading c.requires.found c.requires.sound new c.in-Sound.content told c.requires.small in
+    let exit = sound_exit t c.requires.standing c.args.places.now c.requires.places c.args.place a c.requires.source c.args.done.now c.requires.done c.args.reading.now c.requires.reading c.requires.found c.requires.sound new c.in-Sound.content told in
     let R : Type 0 = HasSound c.as_slice-unit.result.now a.0 c.in-Sound.content c.args.done.now.results new.results in
     let C : Type 0 = new.contents.items ≡ c.args.done.now.contents.items ++ c.in-Sound.content ∷ [] in
     let F : Type 0 = new.firsts.items ≡ c.args.done.now.firsts.items ++ None ∷ [] in

@@ -1,34 +1,32 @@
-use Rattle.std.proofs.Common.{◌≡◌, ℕ, ◌+◌, ◌≤◌, List, [], ◌∷◌, ◌++◌, length, sym, ap, ◌∙◌, subst, Some, None, arith}
+use Rattle.std.proofs.Common.{◌≡◌, ℕ, ◌+◌, List, [], ◌∷◌, ◌++◌, sym, ap, ◌∙◌, Some, None, arith}
 use Rattle.std.specs.Prelude.{unwrap_or}
 use Rattle.std.specs.declared.option.Option.{Option}
 use Rattle.mk_base.specs.declared.name.Node.{Node}
 use Rattle.mk_base.specs.declared.diag.Diag.{Diag}
 use Rattle.face_model.specs.declared.result.How.TheVariants as how
-use Rattle.plain_form.specs.declared.form.Reading.{Reading}
-use Rattle.plain_build.specs.Plain.{PlainTree, imports_in, missing_from}
+use Rattle.plain_build.specs.declared.reading.SourceReading.{SourceReading}
+use Rattle.plain_build.specs.Plain.{PlainTree, imports_in, missing_among}
 use Rattle.plain_build.specs.Plain as spec
 use Rattle.plain_build.specs.Result.{is_checked}
 use Rattle.plain_build.specs.Steps.{first_below}
 use Rattle.plain_build.specs.Kept.{empty_content, result_of}
 use Rattle.plain_build.specs.Done.{IsDone, judged_next, sorted_tree}
-use Rattle.plain_build.proofs.Exits.{graph_exit, blocked_exit, tree_prelude, short_source, few_imports, on_three, none_ticked, one_ticked, on_one, not_true}
+use Rattle.plain_build.proofs.Exits.{graph_exit, blocked_exit, tree_prelude, on_three, none_ticked, one_ticked, on_one, not_true}
+use Rattle.plain_build.proofs.Next.{short_source}
 use Rattle.plain_build.proofs.node.build_node.Goals as goal
 
 pub read_node-requires : goal.read_node-requires
 read_node-requires g c = short_source (sorted_tree c.args.input.now) c.requires.standing c.args.place (c.args.source.now.node, c.args.source.now.bytes.now) c.requires.source
 
-pub missing_imports-requires : goal.missing_imports-requires
-missing_imports-requires g c = subst (λ (ys : List (List ℕ)). length ys ≤ 1048576) (sym c.imports_of-imports.ensures) (few_imports c.in_ok-reading.reading c.in_ok-reading.ensures.small)
-
 pub returns-then-not-is_empty : goal.returns-then-not-is_empty
 returns-then-not-is_empty g c =
     let t : PlainTree = sorted_tree c.args.input.now in
     let a : Node × List ℕ = (c.args.source.now.node, c.args.source.now.bytes.now) in
-    let r : Reading = c.in_ok-reading.reading in
-    let read : r ≡ spec.reading t.settings a.0 a.1 = c.in_ok-reading.ensures.reading t.settings (tree_prelude c.args.input.now) in
+    let r : SourceReading = c.in_ok-reading.reading in
+    let read : r ≡ spec.reading t.settings a.0 a.1 = c.in_ok-reading.ensures t.settings (tree_prelude c.args.input.now) in
     let old = c.args.done.now in
     let ds : List Diag = c.in_ok-missing.missing in
-    let missing : ds ≡ missing_from t 2 (imports_in r) = c.in_ok-missing.ensures t c.requires.places ∙ ap (missing_from t 2) c.imports_of-imports.ensures in
+    let missing : ds ≡ missing_among t (imports_in r) = c.in_ok-missing.ensures t c.requires.places ∙ ap (missing_among t) c.imports_of-imports.ensures in
     let some : ds ≡ [] → ⊥ = λ e. not_true c.is_empty.result (c.is_empty.ensures.1 e) c.if-not-is_empty.true in
     let low : c.first_below-below.result ≡ first_below c.args.places.now old.firsts.items a.0 (imports_in r) =
     c.first_below-below.ensures ∙ ap (λ fs. first_below c.args.places.now fs a.0 c.imports_of-imports.result.now) c.as_slice.ensures.value ∙ ap (first_below c.args.places.now old.firsts.items a.0) c.imports_of-imports.ensures in
@@ -49,12 +47,12 @@ pub returns-in-Some : goal.returns-in-Some
 returns-in-Some g c =
     let t : PlainTree = sorted_tree c.args.input.now in
     let a : Node × List ℕ = (c.args.source.now.node, c.args.source.now.bytes.now) in
-    let r : Reading = c.in_ok-reading.reading in
-    let read : r ≡ spec.reading t.settings a.0 a.1 = c.in_ok-reading.ensures.reading t.settings (tree_prelude c.args.input.now) in
+    let r : SourceReading = c.in_ok-reading.reading in
+    let read : r ≡ spec.reading t.settings a.0 a.1 = c.in_ok-reading.ensures t.settings (tree_prelude c.args.input.now) in
     let old = c.args.done.now in
     let ds : List Diag = c.in_ok-missing.missing in
-    let missing : ds ≡ missing_from t 2 (imports_in r) = c.in_ok-missing.ensures t c.requires.places ∙ ap (missing_from t 2) c.imports_of-imports.ensures in
-    let none : missing_from t 2 (imports_in r) ≡ [] = sym missing ∙ c.is_empty.ensures.0 c.if-not-is_empty.false in
+    let missing : ds ≡ missing_among t (imports_in r) = c.in_ok-missing.ensures t c.requires.places ∙ ap (missing_among t) c.imports_of-imports.ensures in
+    let none : missing_among t (imports_in r) ≡ [] = sym missing ∙ c.is_empty.ensures.0 c.if-not-is_empty.false in
     let low : first_below c.args.places.now old.firsts.items a.0 (imports_in r) ≡ Some c.in-Some.first =
     sym (c.in-Some.ensures ∙ ap (λ fs. first_below c.args.places.now fs a.0 c.imports_of-imports.result.now) c.as_slice.ensures.value ∙ ap (first_below c.args.places.now old.firsts.items a.0) c.imports_of-imports.ensures) in
     let new = c.put_unsound-in-Some.new.done in
@@ -72,10 +70,7 @@ returns-in-Some g c =
     }
 
 pub build_checked-requires-clause-reading : goal.build_checked-requires-clause-reading
-build_checked-requires-clause-reading g c = c.in_ok-reading.ensures.reading (sorted_tree c.args.input.now).settings (tree_prelude c.args.input.now)
-
-pub build_checked-requires-clause-small : goal.build_checked-requires-clause-small
-build_checked-requires-clause-small g c = c.in_ok-reading.ensures.small
+build_checked-requires-clause-reading g c = c.in_ok-reading.ensures (sorted_tree c.args.input.now).settings (tree_prelude c.args.input.now)
 
 pub build_checked-requires-clause-places : goal.build_checked-requires-clause-places
 build_checked-requires-clause-places g c = c.requires.places
@@ -92,7 +87,7 @@ build_checked-requires-clause-standing g c = c.requires.standing
 pub build_checked-requires-clause-found : goal.build_checked-requires-clause-found
 build_checked-requires-clause-found g c =
     let t : PlainTree = sorted_tree c.args.input.now in
-    let missing : c.in_ok-missing.missing ≡ missing_from t 2 (imports_in c.in_ok-reading.reading) = c.in_ok-missing.ensures t c.requires.places ∙ ap (missing_from t 2) c.imports_of-imports.ensures in
+    let missing : c.in_ok-missing.missing ≡ missing_among t (imports_in c.in_ok-reading.reading) = c.in_ok-missing.ensures t c.requires.places ∙ ap (missing_among t) c.imports_of-imports.ensures in
     sym missing ∙ c.is_empty.ensures.0 c.if-not-is_empty.false
 
 pub build_checked-requires-clause-sound : goal.build_checked-requires-clause-sound

@@ -1,0 +1,23 @@
+-- What lexing tells of what is read of a source.
+use Rattle.std.proofs.Common.{◌≡◌, ℕ, List, ap, sym, ◌∙◌}
+use Rattle.std.specs.Prelude.{Result, Ok, Err, IfOk}
+use Rattle.mk_base.specs.declared.name.Node.{Node}
+use Rattle.mk_base.specs.declared.place.Pos.{Pos}
+use Rattle.hs_syntax.specs.declared.token.Token.{Token}
+use Rattle.hs_lex.specs.Tokens.{Lexes, IsFirstBad}
+use Rattle.hs_lex.proofs.Slow.{lexes_exactly, bad_exactly}
+use Rattle.plain_build.specs.declared.reading.SourceReading.{SourceReading}
+use Rattle.plain_build.specs.declared.reading.SourceReading.TheVariants.{Refused}
+use Rattle.plain_build.specs.Plain.{Settings, by_tokens, no_lexeme, reading}
+
+-- the source with these lexemes is read as they are
+pub lexed : (g : Settings) (n : Node) (s : List ℕ) (ts : List Token) (r : SourceReading) → Lexes s ts → r ≡ by_tokens g n (Ok ts) → r ≡ reading g n s
+lexed g n s ts r h e = e ∙ sym (ap (by_tokens g n) ((lexes_exactly s ts).1 h))
+
+-- the source with this first bad place is refused there
+pub unlexed : (g : Settings) (n : Node) (s : List ℕ) (at : Pos) → IsFirstBad s at → Refused (no_lexeme at) ≡ reading g n s
+unlexed g n s at h = sym (ap (by_tokens g n) ((bad_exactly s at).1 h))
+
+pub if_ok : {X E : Type 0} (P Q : X → Type 0) (r : Result X E) → ((x : X) → P x → Q x) → IfOk r P → IfOk r Q
+if_ok P Q (Ok x) f p = f x p
+if_ok P Q (Err e) f p = tt
