@@ -15,3 +15,4 @@ pub mod Sorting
 pub mod Sound
 pub mod Trees
 pub mod Weights
+pub mod Ordered

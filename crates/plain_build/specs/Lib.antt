@@ -3,3 +3,4 @@ pub mod Kept
 pub mod Plain
 pub mod Result
 pub mod Steps
+pub mod Ordered

@@ -1,6 +1,7 @@
 //! The build, node by node in order.
 ghost use Rattle.std.specs.Prelude.{◌≡◌, ◌+◌, ◌≤◌, ◌<◌, ◌^◌, IfOk, OnOk, length, codes};
 ghost use Rattle.build_theory.specs.Laws.{IsDownward, IsExact, IsOrdered};
+ghost use Rattle.plain_build.specs.Ordered.{BuildsAreOrdered};
 ghost use Rattle.plain_build.specs.Plain.{PlainTree, plain};
 ghost use Rattle.plain_build.specs.Done.{IsStanding, sorted_tree};
 ghost use Rattle.plain_build.specs.Steps.{ArePlaces, pairs};
@@ -88,4 +89,9 @@ pub fn plain_is_lawful()
 /// Each node needs lesser ones alone.
 pub fn needs_are_lesser()
     ensures { (t : PlainTree) → IsDownward plain t }
+{}
+
+/// The diagnostics of each node of a build stand in the order of their places, no two at one place.
+pub fn diagnostics_are_ordered()
+    ensures { BuildsAreOrdered }
 {}

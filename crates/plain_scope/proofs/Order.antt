@@ -22,11 +22,11 @@ among_more : (ds : List Diag) (w : Word) (ws : List Word) → AreAmong ds ws →
 among_more [] w ws a = tt
 among_more (d ∷ ds) w ws a = inr a
 
-among_behind : (ds : List Diag) (vs ws : List Word) → AreAmong ds ws → AreAmong ds (vs ++ ws)
+pub among_behind : (ds : List Diag) (vs ws : List Word) → AreAmong ds ws → AreAmong ds (vs ++ ws)
 among_behind ds [] ws a = a
 among_behind ds (v ∷ vs) ws a = among_more ds v (vs ++ ws) (among_behind ds vs ws a)
 
-among_append : (ds es : List Diag) (vs ws : List Word) → AreAmong ds vs → AreAmong es ws → AreAmong (ds ++ es) (vs ++ ws)
+pub among_append : (ds es : List Diag) (vs ws : List Word) → AreAmong ds vs → AreAmong es ws → AreAmong (ds ++ es) (vs ++ ws)
 among_append [] es vs ws a b = among_behind es vs ws b
 among_append (d ∷ ds) es [] ws a b = absurd a
 among_append (d ∷ ds) es (v ∷ vs) ws (inl a) b = inl (a.0, among_append ds es vs ws a.1 b)
@@ -40,7 +40,7 @@ among_all P (d ∷ ds) (w ∷ ws) (inl a) h = (subst P (sym a.0) h.0, among_all 
 among_all P (d ∷ ds) (w ∷ ws) (inr a) h = among_all P (d ∷ ds) ws a h.1
 
 -- diagnostics at words that rise are in order
-among_rising : (ds : List Diag) (ws : List Word) → AreAmong ds ws → AreRising (places ws) → AreOrdered ds
+pub among_rising : (ds : List Diag) (ws : List Word) → AreAmong ds ws → AreRising (places ws) → AreOrdered ds
 among_rising [] ws a h = tt
 among_rising (d ∷ ds) [] a h = absurd a
 among_rising (d ∷ ds) (w ∷ ws) (inl a) h =
