@@ -9,27 +9,28 @@ use std::thread::Threads;
 
 // A line is a tree and the report of its build, with a bar between. The files of a tree stand with a semicolon between
 // them, each as its path, a colon and its text. A tilde ends a line of a text or a report; the last one of a text is
-// left out. E00 comes where a source leaves the form, E10 where an import isn't there.
+// left out. A caret is a semicolon of a text. E00 comes at the first lexeme with which a source leaves the form, E10 at
+// an import that isn't there.
 const FORMS_AND_IMPORTS: &str = "
 A.hs:module A where|A: checked: no interface~build: 1 ok, 1 checked, 0 failed, 0 blocked~
 B.hs:module B where~import A~data U = D T|B: failed~B.hs:2:8: error E10: module A not found~build: 0 ok, 0 checked, 1 failed, 0 blocked~
 A.hs:module A where~x = 1|A: checked: no interface~A.hs:2:1: error E00: this form is not built yet~build: 0 ok, 1 checked, 1 failed, 0 blocked~
 C.hs:module C where~import A~import B|C: failed~C.hs:2:8: error E10: module A not found~C.hs:3:8: error E10: module B not found~build: 0 ok, 0 checked, 1 failed, 0 blocked~
 C.hs:module C where~import B~import A~import B~data T = D X|C: failed~C.hs:2:8: error E10: module B not found~C.hs:3:8: error E10: module A not found~C.hs:4:8: error E10: module B not found~build: 0 ok, 0 checked, 1 failed, 0 blocked~
-A.hs:module A where~import A|A: checked: no interface~A.hs:2:1: error E00: this form is not built yet~build: 0 ok, 1 checked, 1 failed, 0 blocked~
-A.hs:module A where~import B;B.hs:module B where|A: checked: no interface~A.hs:2:1: error E00: this form is not built yet~B: checked: no interface~build: 1 ok, 2 checked, 1 failed, 0 blocked~
-Q.hs:module Q where~import Prim|Q: checked: no interface~Q.hs:2:1: error E00: this form is not built yet~build: 0 ok, 1 checked, 1 failed, 0 blocked~
-A.hs:module B where~import C|A: checked: no interface~A.hs:1:1: error E00: this form is not built yet~build: 0 ok, 1 checked, 1 failed, 0 blocked~
+A.hs:module A where~import A|A: checked: no interface~A.hs:2:8: error E00: this form is not built yet~build: 0 ok, 1 checked, 1 failed, 0 blocked~
+A.hs:module A where~import B;B.hs:module B where|A: checked: no interface~A.hs:2:8: error E00: this form is not built yet~B: checked: no interface~build: 1 ok, 2 checked, 1 failed, 0 blocked~
+Q.hs:module Q where~import Prim|Q: checked: no interface~Q.hs:2:8: error E00: this form is not built yet~build: 0 ok, 1 checked, 1 failed, 0 blocked~
+A.hs:module B where~import C|A: checked: no interface~A.hs:1:8: error E00: this form is not built yet~build: 0 ok, 1 checked, 1 failed, 0 blocked~
 A.hs:|A: checked: no interface~A.hs:1:1: error E00: this form is not built yet~build: 0 ok, 1 checked, 1 failed, 0 blocked~
 A/B.hs:module A.B where|A.B: checked: no interface~A/B.hs:1:1: error E00: this form is not built yet~build: 0 ok, 1 checked, 1 failed, 0 blocked~
 M.hs-boot:module M where;N.hs:module N where~import M|M[boot]: checked: no interface~M.hs-boot:1:1: error E00: this form is not built yet~N: failed~N.hs:2:8: error E10: module M not found~build: 0 ok, 1 checked, 2 failed, 0 blocked~
 M.hs:module M where;M.hs-boot:module M where;N.hs:module N where~import M|M[boot]: checked: no interface~M.hs-boot:1:1: error E00: this form is not built yet~M: blocked by M[boot]~N: blocked by M[boot]~build: 0 ok, 1 checked, 1 failed, 2 blocked~
 a.hs:module a where;A.hsi:x;Prim.hs:module Prim where;A-B.hs:y|build: 0 ok, 0 checked, 0 failed, 0 blocked~
 Z.hs:module Z where;B.hs:module B where;A1.hs:module A1 where;A.hs:module A where|A: checked: no interface~A1: checked: no interface~B: checked: no interface~Z: checked: no interface~build: 4 ok, 4 checked, 0 failed, 0 blocked~
-A.hs:module A where~data T =  C|A: checked: no interface~A.hs:2:1: error E00: this form is not built yet~build: 0 ok, 1 checked, 1 failed, 0 blocked~
+A.hs:module A where~data T =  C|A: checked: no interface~build: 1 ok, 1 checked, 0 failed, 0 blocked~
 B.hs:module B where~data T = C~import A|B: checked: no interface~B.hs:3:1: error E00: this form is not built yet~build: 0 ok, 1 checked, 1 failed, 0 blocked~
-A.hs:module A where~data T = C~data U|A: checked: no interface~A.hs:3:1: error E00: this form is not built yet~build: 0 ok, 1 checked, 1 failed, 0 blocked~
-A.hs:module A where~data T = C a|A: checked: no interface~A.hs:2:1: error E00: this form is not built yet~build: 0 ok, 1 checked, 1 failed, 0 blocked~
+A.hs:module A where~data T = C~data U|A: checked: no interface~A.hs:3:6: error E00: this form is not built yet~build: 0 ok, 1 checked, 1 failed, 0 blocked~
+A.hs:module A where~data T = C a|A: checked: no interface~A.hs:2:12: error E00: this form is not built yet~build: 0 ok, 1 checked, 1 failed, 0 blocked~
 B.hs:module B where~import A~oh no;C.hs:module C where~import B|B: checked: no interface~B.hs:3:1: error E00: this form is not built yet~C: blocked by B~build: 0 ok, 1 checked, 1 failed, 1 blocked~
 ";
 
@@ -57,11 +58,56 @@ A.hs:module A where~data T = C;B.hs:module B where~import A~data U = D T;C.hs:mo
 A.hs:module A where~data T = C;A.hs:module A where~data T = C X|A: checked: no interface~A.hs:2:12: error E21: X is not in scope~build: 0 ok, 1 checked, 1 failed, 0 blocked~
 ";
 
-/// The bytes with a line feed for each tilde.
+// Sources with comments, blanks and braces, and items over several lines or several on one: E00 comes at the first
+// lexeme that leaves the form, where a sign that is put stands at the next lexeme, and at the end at the last one.
+const LAID_OUT: &str = "
+A.hs:-- first~module A where -- behind~data T = C -- here|A: checked: no interface~build: 1 ok, 1 checked, 0 failed, 0 blocked~
+A.hs:{- a~{- b -} ~-} module A where {- c -}~  data T = {- d -} C T|A: checked: no interface~build: 1 ok, 1 checked, 0 failed, 0 blocked~
+A.hs:module A where~data T = C~  T~    X|A: checked: no interface~A.hs:4:5: error E21: X is not in scope~build: 0 ok, 1 checked, 1 failed, 0 blocked~
+A.hs:module A where {};B.hs:module B where { import A^data T = C }|A: checked: no interface~B: checked: no interface~build: 2 ok, 2 checked, 0 failed, 0 blocked~
+A.hs:module A where~data T = C^data U = D X|A: checked: no interface~A.hs:2:23: error E21: X is not in scope~build: 0 ok, 1 checked, 1 failed, 0 blocked~
+A.hs:module A where~\tdata T = C~\tdata U = D X|A: checked: no interface~A.hs:3:20: error E21: X is not in scope~build: 0 ok, 1 checked, 1 failed, 0 blocked~
+A.hs:module A where\r~data T = C\r~data U = D X\r|A: checked: no interface~A.hs:3:12: error E21: X is not in scope~build: 0 ok, 1 checked, 1 failed, 0 blocked~
+A.hs:module A where~~data T =  C~~|A: checked: no interface~build: 1 ok, 1 checked, 0 failed, 0 blocked~
+A.hs:module~  A~ where~   data~     T = C|A: checked: no interface~build: 1 ok, 1 checked, 0 failed, 0 blocked~
+A.hs:module A where~  data T = C~ data U = D|A: checked: no interface~A.hs:3:2: error E00: this form is not built yet~build: 0 ok, 1 checked, 1 failed, 0 blocked~
+A.hs:module A where { data T = C^ }|A: checked: no interface~A.hs:1:30: error E00: this form is not built yet~build: 0 ok, 1 checked, 1 failed, 0 blocked~
+A.hs:module A where~data T = C^|A: checked: no interface~A.hs:2:11: error E00: this form is not built yet~build: 0 ok, 1 checked, 1 failed, 0 blocked~
+A.hs:module A where {|A: checked: no interface~A.hs:1:16: error E00: this form is not built yet~build: 0 ok, 1 checked, 1 failed, 0 blocked~
+B.hs:module B where~  import~    A~  import {- a -} A|B: failed~B.hs:3:5: error E10: module A not found~B.hs:4:18: error E10: module A not found~build: 0 ok, 0 checked, 1 failed, 0 blocked~
+A.hs:module A where { data T = C^data T = C }|A: checked: no interface~A.hs:1:34: error E23: T is defined twice~A.hs:1:38: error E23: C is defined twice~build: 0 ok, 1 checked, 1 failed, 0 blocked~
+A.hs:module A where;B.hs:module B where~import qualified A|A: checked: no interface~B: checked: no interface~B.hs:2:8: error E00: this form is not built yet~build: 1 ok, 2 checked, 1 failed, 0 blocked~
+A.hs:module A (T) where~data T = C|A: checked: no interface~A.hs:1:10: error E00: this form is not built yet~build: 0 ok, 1 checked, 1 failed, 0 blocked~
+A.hs:-- nothing~{- at all -}|A: checked: no interface~A.hs:1:1: error E00: this form is not built yet~build: 0 ok, 1 checked, 1 failed, 0 blocked~
+A.hs:  {-# LANGUAGE X #-}~module A where|A: checked: no interface~A.hs:1:3: error E00: this form is not built yet~build: 0 ok, 1 checked, 1 failed, 0 blocked~
+B.hs:module B where~data T = C^import A|B: checked: no interface~B.hs:2:12: error E00: this form is not built yet~build: 0 ok, 1 checked, 1 failed, 0 blocked~
+";
+
+// E01 comes at the first place at which no lexeme begins, alone, also beside what would leave the form or isn't there.
+const BAD_LEXEMES: &str = "
+A.hs:module A where~data T = C \x00|A: checked: no interface~A.hs:2:12: error E01: no lexeme begins here~build: 0 ok, 1 checked, 1 failed, 0 blocked~
+A.hs:module A where~  {- x|A: checked: no interface~A.hs:2:3: error E01: no lexeme begins here~build: 0 ok, 1 checked, 1 failed, 0 blocked~
+A.hs:{- {- -} x|A: checked: no interface~A.hs:1:1: error E01: no lexeme begins here~build: 0 ok, 1 checked, 1 failed, 0 blocked~
+A.hs:module A where~x = \"b|A: checked: no interface~A.hs:2:5: error E01: no lexeme begins here~build: 0 ok, 1 checked, 1 failed, 0 blocked~
+A.hs:\x00 \"|A: checked: no interface~A.hs:1:1: error E01: no lexeme begins here~build: 0 ok, 1 checked, 1 failed, 0 blocked~
+A.hs:module A where~data T = C X -- \x00|A: checked: no interface~A.hs:2:14: error E01: no lexeme begins here~build: 0 ok, 1 checked, 1 failed, 0 blocked~
+B.hs:module B where~import A~\x00|B: checked: no interface~B.hs:3:1: error E01: no lexeme begins here~build: 0 ok, 1 checked, 1 failed, 0 blocked~
+A/B.hs:\x00|A.B: checked: no interface~A/B.hs:1:1: error E01: no lexeme begins here~build: 0 ok, 1 checked, 1 failed, 0 blocked~
+M.hs-boot:module M where~\x00|M[boot]: checked: no interface~M.hs-boot:2:1: error E01: no lexeme begins here~build: 0 ok, 1 checked, 1 failed, 0 blocked~
+M.hs:module M where;M.hs-boot:'x|M[boot]: checked: no interface~M.hs-boot:1:1: error E01: no lexeme begins here~M: blocked by M[boot]~build: 0 ok, 1 checked, 1 failed, 1 blocked~
+A.hs:'x;B.hs:module B where~import A|A: checked: no interface~A.hs:1:1: error E01: no lexeme begins here~B: blocked by A~build: 0 ok, 1 checked, 1 failed, 1 blocked~
+A.hs:module A where;B.hs:module B where~import A~data T = \"|A: checked: no interface~B: checked: no interface~B.hs:3:10: error E01: no lexeme begins here~build: 1 ok, 2 checked, 1 failed, 0 blocked~
+";
+
+/// The bytes with a line feed for each tilde and a semicolon for each caret.
 fn lines_of(alloc: Global, text: &[u8]) -> Result<Vec<u8>, NoMemory> {
     let mut lines = Vec::new(alloc);
     for byte in text {
-        lines.push(if *byte == b'~' { b'\n' } else { *byte })?;
+        lines.push(match byte {
+            b'~' => b'\n',
+            b'^' => b';',
+            _ => *byte,
+        })?;
     }
     Ok(lines)
 }
@@ -101,15 +147,21 @@ fn script_of(alloc: Global, tree: &[u8]) -> Result<List<u8>, NoMemory> {
     Ok(script)
 }
 
-/// Whether the session that puts and builds the row's tree prints the row's report and answers as it says.
+/// Whether the session that puts and builds the row's tree, in pieces of any size, prints the row's report and answers
+/// as it says.
 fn is_answered<R: Threads>(threads: &R, alloc: Global, row: &[u8]) -> Result<bool, Fail> {
     let (tree, report) = cut_at(row, b'|');
     let script = script_of(alloc, tree)?;
-    let (status, written) = answer(threads, alloc, script.as_slice(), 1000, &[], &[])?;
     let report = lines_of(alloc, report)?;
     let sound = report.ends_with(b" 0 failed, 0 blocked\n");
     let expected = if sound { Status::Done } else { Status::Failed };
-    Ok(written.as_slice() == report.as_slice() && status == expected)
+    for piece in [1usize, 2, 1000] {
+        let (status, written) = answer(threads, alloc, script.as_slice(), piece, &[], &[])?;
+        if written.as_slice() != report.as_slice() || status != expected {
+            return Ok(false);
+        }
+    }
+    Ok(true)
 }
 
 #[test]
@@ -126,6 +178,28 @@ fn forms_and_imports_are_reported(rt: HostRuntime) -> Result<(), Fail> {
 #[test]
 fn scopes_are_reported(rt: HostRuntime) -> Result<(), Fail> {
     for row in SCOPES.as_bytes().split(|byte| *byte == b'\n') {
+        if !row.is_empty() {
+            let alike = is_answered(&rt, rt.alloc(), row)?;
+            assert!(rt; alike, "{row:?}");
+        }
+    }
+    Ok(())
+}
+
+#[test]
+fn sources_are_laid_out(rt: HostRuntime) -> Result<(), Fail> {
+    for row in LAID_OUT.as_bytes().split(|byte| *byte == b'\n') {
+        if !row.is_empty() {
+            let alike = is_answered(&rt, rt.alloc(), row)?;
+            assert!(rt; alike, "{row:?}");
+        }
+    }
+    Ok(())
+}
+
+#[test]
+fn bad_lexemes_are_reported(rt: HostRuntime) -> Result<(), Fail> {
+    for row in BAD_LEXEMES.as_bytes().split(|byte| *byte == b'\n') {
         if !row.is_empty() {
             let alike = is_answered(&rt, rt.alloc(), row)?;
             assert!(rt; alike, "{row:?}");
