@@ -8,6 +8,7 @@ pub mod kind;
 pub mod list;
 pub mod memory;
 pub mod name;
+pub mod path;
 pub mod place;
 pub mod plain;
 pub mod status;
