@@ -1,5 +1,5 @@
 -- Module paths: which files are modules, and the nodes that they are. Texts are lists of bytes.
-use Rattle.std.specs.Prelude.{◌≡◌, ◌≢◌, ℕ, ◌-◌, nat_eq, Bool, true, false, ◌&&◌, not, List, [], ◌∷◌, ◌++◌, map, length, take, drop, Some, None, codes, if◌then◌else◌}
+use Rattle.std.specs.Prelude.{◌≡◌, ◌≢◌, ◌↔◌, ℕ, ◌-◌, nat_eq, Bool, true, false, ◌&&◌, not, List, [], ◌∷◌, ◌++◌, map, length, take, drop, Some, None, codes, if◌then◌else◌}
 use Rattle.std.specs.declared.option.Option.{Option}
 use Rattle.std.specs.List.{list_all, slice_split}
 use Rattle.std.specs.Str.{bytes_eq, chars, is_utf8}
@@ -88,3 +88,14 @@ node_at boot front = if list_all is_segment (pieces 47 front) && not (bytes_eq f
 unfoldable pub node_of : List ℕ → Option Node
 node_of path = if ends_with (codes ".hs-boot") path then node_at true (stem (codes ".hs-boot") path)
     else (if ends_with (codes ".hs") path then node_at false (stem (codes ".hs") path) else None)
+
+-- What holds of them. A path reads as a node exactly where it is that node's module path, so two paths of one node are
+-- the same, and no path is of two nodes.
+abbrev pub PathsAreTheirSpelling : Type 0
+PathsAreTheirSpelling = (path : List ℕ) (n : Node) → (node_of path ≡ Some n) ↔ IsModulePath path n
+
+abbrev pub PathsReadAsTheirNodes : Type 0
+PathsReadAsTheirNodes = (n : Node) → IsModule n → node_of (path_of n) ≡ Some n
+
+abbrev pub IfaceNamesDiffer : Type 0
+IfaceNamesDiffer = (m n : Node) → iface_name m ≡ iface_name n → m ≡ n

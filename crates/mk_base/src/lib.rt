@@ -9,6 +9,8 @@ pub mod list;
 pub mod memory;
 pub mod name;
 pub mod path;
+#[cfg(test)]
+mod path_tests;
 pub mod place;
 pub mod plain;
 pub mod status;

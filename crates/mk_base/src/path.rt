@@ -1,11 +1,11 @@
 //! Module paths: which files are modules, and of which nodes.
-ghost use Rattle.std.specs.Prelude.{◌≡◌, ◌↔◌, ℕ, List, ◌-◌, length, take, map, IfOk, MatchOption, Some, true, false};
+ghost use Rattle.std.specs.Prelude.{◌≡◌, map, IfOk, MatchOption, true, false};
 ghost use Rattle.std.specs.List.{list_all};
 ghost use Rattle.std.specs.Str.{chars};
 ghost use Rattle.mk_base.specs.declared.name.Node.{Node};
 ghost use Rattle.mk_base.specs.Classes.{class_of};
 ghost use Rattle.mk_base.specs.Paths as spec;
-ghost use Rattle.mk_base.specs.Paths.{IsModulePath, ends_with, stem, pieces, in_place_of};
+ghost use Rattle.mk_base.specs.Paths.{IsModulePath, PathsAreTheirSpelling, PathsReadAsTheirNodes, IfaceNamesDiffer, ends_with, stem, pieces, in_place_of};
 
 use crate::char_class::{CharClass, class_of};
 use crate::memory::NoMemory;
@@ -55,18 +55,18 @@ pub fn iface_name(alloc: Global, node: &Node) -> Result<Text, NoMemory>
 }
 
 /// A path reads as a node exactly where it is that node's module path.
-pub fn path_is_its_spelling()
-    ensures { (path : List ℕ) (n : Node) → (spec.node_of path ≡ Some n) ↔ IsModulePath path n }
+pub fn paths_are_their_spelling()
+    ensures { PathsAreTheirSpelling }
 {}
 
 /// The path of a module's node reads as that node.
-pub fn path_reads_as_its_node()
-    ensures { (n : Node) → spec.IsModule n → spec.node_of (spec.path_of n) ≡ Some n }
+pub fn paths_read_as_their_nodes()
+    ensures { PathsReadAsTheirNodes }
 {}
 
 /// Two nodes have interfaces of different names.
 pub fn iface_names_differ()
-    ensures { (m n : Node) → spec.iface_name m ≡ spec.iface_name n → m ≡ n }
+    ensures { IfaceNamesDiffer }
 {}
 
 /// The path without this end; None where it has another end.
