@@ -1,5 +1,6 @@
 pub mod Classes
 pub mod Kinds
 pub mod Order
+pub mod Paths
 pub mod Types
 pub mod formers

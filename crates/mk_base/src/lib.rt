@@ -8,6 +8,9 @@ pub mod kind;
 pub mod list;
 pub mod memory;
 pub mod name;
+pub mod path;
+#[cfg(test)]
+mod path_tests;
 pub mod place;
 pub mod plain;
 pub mod status;
