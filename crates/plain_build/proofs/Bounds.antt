@@ -20,10 +20,7 @@ use Rattle.hs_layout.specs.declared.state.Spot.{Spot}
 use Rattle.hs_layout.specs.declared.state.State.{State as LayoutState}
 use Rattle.hs_layout.specs.Roles.{role_of}
 use Rattle.hs_layout.specs.Braced.{put_token, spot_of, is_pragma, before, pieces, after, at_end, braced_from, braced, start as layout_start}
-
-all_join : {X : Type 0} (P : X → Type 0) (xs ys : List X) → AllByRecursion P xs → AllByRecursion P ys → AllByRecursion P (xs ++ ys)
-all_join P [] ys h k = k
-all_join P (x ∷ xs) ys h k = (h.0, all_join P xs ys h.1 k)
+use Rattle.plain_build.proofs.Alls.{all_join}
 
 -- lexemes of a source
 past_short : (bs : List ℕ) (n : ℕ) → length (past n bs) ≤ length bs

@@ -1,5 +1,5 @@
 -- Steps lead to lesser nodes.
-use Rattle.std.proofs.Common.{◌≡◌, ◌⊎◌, ℕ, zero, suc, Bool, true, false, ◌||◌, not, ◌&&◌, List, [], ◌∷◌, ◌++◌, map, refl, ap, sym, ◌∙◌, subst, inl, inr, cond, Some, None}
+use Rattle.std.proofs.Common.{◌≡◌, ◌⊎◌, ℕ, zero, suc, Bool, true, false, ◌||◌, not, ◌&&◌, List, [], ◌∷◌, map, refl, ap, sym, ◌∙◌, subst, inl, inr, cond, Some, None}
 use Rattle.std.specs.declared.option.Option.{Option}
 use Rattle.std.specs.Option.{option_map_or}
 use Rattle.std.specs.List.{AllByRecursion}
@@ -29,6 +29,7 @@ use Rattle.plain_build.specs.declared.reading.SourceReading.{SourceReading}
 use Rattle.plain_build.specs.declared.reading.SourceReading.TheVariants.{Refused}
 use Rattle.plain_build.specs.Plain.{Settings, PlainTree, less_node, same_node, node_named, unbuilt, formed, by_tokens, reading, imports_in, imports_of, leads_to, reaches}
 use Rattle.plain_build.proofs.Order.{only_less, plain_ordered}
+use Rattle.plain_build.proofs.Alls.{all_last}
 
 pub or_split : (b c : Bool) → (b || c) ≡ true → (b ≡ true) ⊎ (c ≡ true)
 or_split true c e = inl refl
@@ -40,10 +41,6 @@ IsLesser x y = is_import x y.text ≡ true
 
 abbrev AreLesser : List ℕ → List Word → Type 0
 AreLesser x ys = AllByRecursion (IsLesser x) ys
-
-one_more : (x : List ℕ) (ys : List Word) (y : Word) → AreLesser x ys → IsLesser x y → AreLesser x (ys ++ y ∷ [])
-one_more x [] y h k = (k, tt)
-one_more x (z ∷ ys) y h k = (h.0, one_more x ys y h.1 k)
 
 abbrev KeepsLesser : List ℕ → Option State → Type 0
 KeepsLesser x (Some n) = AreLesser x n.written.imports
@@ -58,7 +55,7 @@ either_lesser x true n o h k = h
 either_lesser x false n o h k = k
 
 import_lesser : (x : List ℕ) (s : State) (t : Token) (b c : Bool) → c ≡ is_import x t.text → AreLesser x s.written.imports → KeepsLesser x (on (b && c) (with_import s (word_of t)))
-import_lesser x s t true true e h = one_more x s.written.imports (word_of t) h (sym e)
+import_lesser x s t true true e h = all_last (IsLesser x) s.written.imports (word_of t) h (sym e)
 import_lesser x s t true false e h = tt
 import_lesser x s t false c e h = tt
 

@@ -1,3 +1,4 @@
+pub mod Alls
 pub mod Bounds
 pub mod Down
 pub mod Env

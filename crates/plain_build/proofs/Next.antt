@@ -40,6 +40,7 @@ use Rattle.plain_build.proofs.Firsts.{firsts_next, low_before, none_low, within}
 use Rattle.plain_build.proofs.Env.{env_at, IsOffered, imported_at, import_there, content_there}
 use Rattle.plain_build.proofs.Sound.{sound_fits}
 use Rattle.plain_build.proofs.Weights.{IsShortWord, IsShortItem, weight, AreSmall, reading_small}
+use Rattle.plain_build.proofs.Alls.{all_join, all_last}
 
 abbrev Results : Type 0
 Results = List (Node × PlainJudged)
@@ -99,10 +100,6 @@ contents_more [] (i ∷ js) c j h k = absurd h
 contents_more (d ∷ cs) [] c j h k = absurd h
 contents_more (d ∷ cs) (i ∷ js) c j h k = (h.0, contents_more cs js c j h.1 k)
 
-all_last : {X : Type 0} (P : X → Type 0) (xs : List X) (x : X) → AllByRecursion P xs → P x → AllByRecursion P (xs ++ x ∷ [])
-all_last P [] x h k = (k, tt)
-all_last P (y ∷ xs) x h k = (h.0, all_last P xs x h.1 k)
-
 -- where a node without graph errors is blocked, and where it is checked
 step_graph : (t : PlainTree) (n : ℕ) (a : Node × List ℕ) (d : Diag) (ds : List Diag) → missing_among t (imports_in (reading t.settings a.0 a.1)) ≡ d ∷ ds
     → judged_next t a n ≡ record { how = Graph; outcome = Failed (d ∷ ds) }
@@ -157,13 +154,9 @@ short_one : (P : Content → Type 0) (o : Option Content) → ((c : Content) →
 short_one P None h = tt
 short_one P (Some c) h = (h c refl, tt)
 
-all_both : {X : Type 0} (P : X → Type 0) (xs ys : List X) → AllByRecursion P xs → AllByRecursion P ys → AllByRecursion P (xs ++ ys)
-all_both P [] ys a b = b
-all_both P (x ∷ xs) ys a b = (a.0, all_both P xs ys a.1 b)
-
 short_at : (P : Content → Type 0) (cs : List Content) (places : List ℕ) → AllByRecursion P cs → AllByRecursion P (contents_at cs places)
 short_at P cs [] h = tt
-short_at P cs (i ∷ is) h = all_both P (one_at (slice_get cs i)) (contents_at cs is) (short_one P (slice_get cs i) (λ c e. all_at P cs c (in_at cs i c e) h)) (short_at P cs is h)
+short_at P cs (i ∷ is) h = all_join P (one_at (slice_get cs i)) (contents_at cs is) (short_one P (slice_get cs i) (λ c e. all_at P cs c (in_at cs i c e) h)) (short_at P cs is h)
 
 places_within : (places : Places) (contents : List Content) (env : List (Node × Content)) (ys : List Word) → ((y : Word) → IsIn y ys → IsOffered places contents env y.text)
     → AllByRecursion (λ i. i < length contents) (import_places places ys)

@@ -13,6 +13,7 @@ use Rattle.plain_form.specs.Paths.{is_segment, ends_with, stem, dotted, node_at,
 use Rattle.plain_build.specs.Plain.{plain, source_at, sources_of}
 use Rattle.plain_build.specs.Result.{AreDistinct}
 use Rattle.plain_build.proofs.Order.{texts_tell}
+use Rattle.plain_build.proofs.Alls.{all_join}
 
 abbrev NoDot : ℕ → Type 0
 NoDot b = b ≡ 46 → ⊥
@@ -153,10 +154,6 @@ short_node path n e =
     let all : length path ≡ length (a.0 ++ cond n.boot (codes ".hs-boot") (codes ".hs")) = ap length a.1 in
     let front : length a.0 ≤ length (a.0 ++ cond n.boot (codes ".hs-boot") (codes ".hs")) = front_length a.0 (cond n.boot (codes ".hs-boot") (codes ".hs")) in
     omega (arith, name, all, front)
-
-all_join : (P : Node × List ℕ → Type 0) (xs ys : List (Node × List ℕ)) → AllByRecursion P xs → AllByRecursion P ys → AllByRecursion P (xs ++ ys)
-all_join P [] ys a b = b
-all_join P (x ∷ xs) ys a b = (a.0, all_join P xs ys a.1 b)
 
 other_source : (f g : File) (n : Node) (o : Option Node) → (f.name ≡ g.name → ⊥) → node_of f.name ≡ Some n → node_of g.name ≡ o → AllByRecursion (λ (q : Node × List ℕ). n ≡ q.0 → ⊥) (source_at g o)
 other_source f g n None ne e k = tt

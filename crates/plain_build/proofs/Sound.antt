@@ -19,6 +19,7 @@ use Rattle.plain_scope.specs.declared.scope.Checked.TheVariants.{Sound}
 use Rattle.plain_scope.specs.Scope.{same_space, exports_of, brought, heads, content_heads, scope, referred, same_entity, Pair, Use, Missing, Ambiguous, Found, use_of, use_at, twice_diags, field_diags, data_diags, datas_diags, scope_diags, found_names, resolved, content_of, with_diags, check_of, diag_at}
 use Rattle.plain_face.specs.Interface.{AreBefore, names_in, IsSound, Fits}
 use Rattle.plain_build.proofs.Weights.{IsShortWord, IsShortItem, IsSmall, fields_in}
+use Rattle.plain_build.proofs.Alls.{all_join}
 
 with_no_diags : (c d : Content) (ds : List Diag) → with_diags c ds ≡ Sound d → (ds ≡ []) × (d ≡ c)
 with_no_diags c d [] e = (refl, (let h : d ≡ c = cc in h))
@@ -95,10 +96,6 @@ IsShort n = (length n.unit.text ≤ 64) × (length n.module.text ≤ 1048576)
 abbrev IsShortPair : Pair → Type 0
 IsShortPair p = IsShort p.entity
 
-all_append : {X : Type 0} (P : X → Type 0) (xs ys : List X) → AllByRecursion P xs → AllByRecursion P ys → AllByRecursion P (xs ++ ys)
-all_append P [] ys a b = b
-all_append P (x ∷ xs) ys a b = (a.0, all_append P xs ys a.1 b)
-
 all_brought : (m : List ℕ) (es : List Name) → AllByRecursion IsShort es → AllByRecursion IsShortPair (brought m es)
 all_brought m [] h = tt
 all_brought m (e ∷ es) h = (h.0, (h.0, all_brought m es h.1))
@@ -111,12 +108,12 @@ all_imported : (unit : List ℕ) (cs : List Content) → length unit ≤ 64 → 
     → AllByRecursion IsShortPair (flat_map (λ (c : Content). brought c.module (exports_of unit c.module (content_heads c.datas))) cs)
 all_imported unit [] u h = tt
 all_imported unit (c ∷ cs) u h =
-    all_append IsShortPair (brought c.module (exports_of unit c.module (content_heads c.datas))) (flat_map (λ (c : Content). brought c.module (exports_of unit c.module (content_heads c.datas))) cs)
+    all_join IsShortPair (brought c.module (exports_of unit c.module (content_heads c.datas))) (flat_map (λ (c : Content). brought c.module (exports_of unit c.module (content_heads c.datas))) cs)
     (all_brought c.module (exports_of unit c.module (content_heads c.datas)) (all_exports unit c.module (content_heads c.datas) u h.0)) (all_imported unit cs u h.1)
 
 all_scope : (unit m : List ℕ) (w : Written) (cs : List Content) → length unit ≤ 64 → length m ≤ 1048576 → AllByRecursion (λ (c : Content). length c.module ≤ 1048576) cs → AllByRecursion IsShortPair (scope unit m w cs)
 all_scope unit m w cs u v h =
-    all_append IsShortPair (brought m (exports_of unit m (heads w.datas))) (flat_map (λ (c : Content). brought c.module (exports_of unit c.module (content_heads c.datas))) cs)
+    all_join IsShortPair (brought m (exports_of unit m (heads w.datas))) (flat_map (λ (c : Content). brought c.module (exports_of unit c.module (content_heads c.datas))) cs)
     (all_brought m (exports_of unit m (heads w.datas)) (all_exports unit m (heads w.datas) u v)) (all_imported unit cs u h)
 
 abbrev IsNamed : List ℕ → Name → Type 0
@@ -168,7 +165,7 @@ named_fits f l (e ∷ es) h = ((h.0.0.0, h.0.0.1, subst (λ n. n ≤ 1048576) (a
 fields_fit : (pairs : List Pair) (fs : List Word) → AllByRecursion IsShortPair pairs → AllByRecursion (IsShortWord 1048576) fs → AllByRecursion HasFits (flat_map (found_at pairs) fs)
 fields_fit pairs [] h l = tt
 fields_fit pairs (f ∷ fs) h l =
-    all_append HasFits (found_at pairs f) (flat_map (found_at pairs) fs)
+    all_join HasFits (found_at pairs f) (flat_map (found_at pairs) fs)
     (named_fits f.text l.0 (found_at pairs f) (all_found (IsNamed f.text) (referred pairs f.text) (all_referred pairs f.text h)))
     (fields_fit pairs fs h l.1)
 

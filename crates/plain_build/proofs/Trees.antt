@@ -26,6 +26,7 @@ use Rattle.plain_build.proofs.Sorting.{by_node_rising}
 use Rattle.plain_build.proofs.First.{Stands}
 use Rattle.plain_build.proofs.Next.{before_next, before_none, stood}
 use Rattle.plain_build.proofs.Paths.{short_node, sources_distinct}
+use Rattle.plain_build.proofs.Alls.{all_join}
 
 abbrev Results : Type 0
 Results = List (Node × PlainJudged)
@@ -102,10 +103,6 @@ source_count (f ∷ fs) =
     let one : length (source_at f (node_of f.name)) ≤ 1 = one_source f (node_of f.name) in
     let both : length (source_at f (node_of f.name) ++ sources_of fs) ≡ length (source_at f (node_of f.name)) + length (sources_of fs) = length-append (source_at f (node_of f.name)) (sources_of fs) in
     omega (arith, rest, one, both)
-
-all_join : (P : Node × List ℕ → Type 0) (xs ys : List (Node × List ℕ)) → AllByRecursion P xs → AllByRecursion P ys → AllByRecursion P (xs ++ ys)
-all_join P [] ys a b = b
-all_join P (x ∷ xs) ys a b = (a.0, all_join P xs ys a.1 b)
 
 small_source : (f : File) (o : Option Node) → node_of f.name ≡ o → length f.name ≤ 1048576 → length f.bytes ≤ 1048576 → AllByRecursion IsSmallSource (source_at f o)
 small_source f None e h k = tt

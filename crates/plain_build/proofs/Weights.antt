@@ -25,6 +25,7 @@ use Rattle.plain_build.specs.declared.reading.SourceReading.{SourceReading}
 use Rattle.plain_build.specs.declared.reading.SourceReading.TheVariants.{Whole, Refused}
 use Rattle.plain_build.specs.Plain.{Settings, unbuilt, formed, by_tokens, reading}
 use Rattle.plain_build.proofs.Bounds.{IsShortToken, count_of, count, lexemes, AreFew, lexemes_few, laid_out}
+use Rattle.plain_build.proofs.Alls.{all_last}
 
 abbrev pub fields_in : List DataItem → ℕ
 fields_in ds = sum_by (λ (d : DataItem). length d.fields) ds
@@ -59,10 +60,6 @@ IsHeld b k w g = (weight w + pending g ≤ k) × AllByRecursion (IsShortItem b) 
 abbrev Holds : ℕ → ℕ → Option State → Type 0
 Holds b k (Some n) = IsHeld b k n.written n.stage
 Holds b k None = Unit {0}
-
-all_more : {X : Type 0} (P : X → Type 0) (xs : List X) (x : X) → AllByRecursion P xs → P x → AllByRecursion P (xs ++ x ∷ [])
-all_more P [] x h k = (k, tt)
-all_more P (y ∷ xs) x h k = (h.0, all_more P xs x h.1 k)
 
 named_counts : (o : Option PutSign) (text : List ℕ) → is_word o text ≡ true → count_of o ≡ 1
 named_counts None text e = refl
@@ -118,7 +115,7 @@ module _ (b : ℕ) (x : List ℕ) (s : State) (t : Token) (short : IsShortToken 
       let l : length (s.written.datas ++ d ∷ []) ≡ length s.written.datas + 1 = m.0 in
       let f : fields_in (s.written.datas ++ d ∷ []) ≡ fields_in s.written.datas + (length d.fields + 0) = m.1 in
       let n : length s.written.imports + (2 * length s.written.datas + fields_in s.written.datas) + (2 + length d.fields) ≤ k = i.0 in
-      (omega arith, all_more (IsShortItem b) s.written.datas d i.1 i.2, q)
+      (omega arith, all_last (IsShortItem b) s.written.datas d i.1 i.2, q)
 
   behind_data_held : (k : ℕ) (d : DataItem) → IsHeld b k s.written (stage.Fields d) → Holds b (k + count t) (behind_data s d t)
   behind_data_held k d i =
@@ -130,7 +127,7 @@ module _ (b : ℕ) (x : List ℕ) (s : State) (t : Token) (short : IsShortToken 
       let one : count t ≡ 1 = named_counts t.sign t.text (sym e) in
       let n : weight s.written + (2 + length d.fields) ≤ k = i.0 in
       let l : length (d.fields ++ word_of t ∷ []) ≡ length d.fields + 1 = length-append d.fields (word_of t ∷ []) in
-      (omega arith, i.1, (i.2.0, i.2.1, all_more (IsShortWord b) d.fields (word_of t) i.2.2 short))
+      (omega arith, i.1, (i.2.0, i.2.1, all_last (IsShortWord b) d.fields (word_of t) i.2.2 short))
   field_held k false d e i = behind_data_held k d i
 
   step_held : (k : ℕ) (g : Stage) → IsHeld b k s.written g → Holds b (k + count t) (step_at x s g t)
