@@ -21,8 +21,9 @@ pub fn node_of_path(alloc: Global, path: &str) -> Result<Option<Node>, NoMemory>
     node_of(alloc, path.as_bytes())
 }
 
+/// The node of a file by the bytes of its name; a name that isn't UTF-8 is no module path.
 #[tactic(auto, unfolding(crate::specs::Paths::node_of))]
-fn node_of(alloc: Global, path: &[u8]) -> Result<Option<Node>, NoMemory>
+pub fn node_of(alloc: Global, path: &[u8]) -> Result<Option<Node>, NoMemory>
     ensures { IfOk result (λ o. o ≡ spec.node_of path.now) }
 {
     if let Some(front) = before_end(path, b".hs-boot") {

@@ -1,10 +1,9 @@
 -- The diagnostics of a node are in the order of their places.
 use Rattle.std.specs.Prelude.{map, if◌then◌else◌}
 use Rattle.std.specs.List.{AllByRecursion, flat_map}
-use Rattle.std.specs.Map.{lookup}
 use Rattle.std.specs.Option.{option_map_or}
 use Rattle.std.specs.declared.option.Option.{Option}
-use Rattle.std.proofs.Common.{◌≡◌, ℕ, Bool, true, false, cond, not, ◌||◌, List, [], ◌∷◌, ◌++◌, refl, ap, sym, ◌∙◌, subst, Some, None, Result, Ok, Err, append_assoc, append-nil, inl}
+use Rattle.std.proofs.Common.{◌≡◌, ℕ, Bool, true, false, not, ◌||◌, List, [], ◌∷◌, ◌++◌, refl, ap, sym, ◌∙◌, subst, Some, None, Result, Ok, Err, append_assoc, append-nil, inl}
 use Rattle.mk_base.specs.declared.name.Node.{Node}
 use Rattle.mk_base.specs.declared.diag.Diag.{Diag}
 use Rattle.mk_base.specs.declared.place.Pos.{Pos}
@@ -14,14 +13,13 @@ use Rattle.hs_syntax.specs.declared.token.TokenKind.{TokenKind}
 use Rattle.hs_syntax.specs.declared.token.PutSign.{PutSign}
 use Rattle.hs_lex.specs.declared.item.Kind.{Kind}
 use Rattle.hs_lex.specs.declared.cursor.Cursor.{Cursor}
-use Rattle.hs_lex.specs.declared.cursor.Turn.{Turn}
 use Rattle.hs_lex.specs.Tokens.{Lexes, Tokens, tokens_at}
 use Rattle.hs_lex.specs.Slow.{read_source}
 use Rattle.hs_lex.proofs.Slow.{lexes_exactly}
 use Rattle.hs_lex.proofs.Rising.{lexemes_rise}
 use Rattle.hs_layout.specs.declared.state.Spot.{Spot}
 use Rattle.hs_layout.specs.declared.state.State.{State}
-use Rattle.hs_layout.specs.Braced.{after, at_end, before, braced, braced_from, is_pragma, pieces, put_token, spot_of, start}
+use Rattle.hs_layout.specs.Braced.{after, at_end, before, braced, braced_from, is_pragma, put_token, spot_of, start}
 use Rattle.hs_layout.specs.Roles.{role_of}
 use Rattle.plain_form.specs.Words.{is_con}
 use Rattle.plain_form.specs.Form.{first_place, lexeme_places, places, read_form, words, written_at}
@@ -34,9 +32,9 @@ use Rattle.plain_form.proofs.Rise.{words_rise}
 use Rattle.plain_scope.specs.declared.scope.Content.{Content}
 use Rattle.face_model.specs.declared.result.Reason.TheVariants.{NoInterface}
 use Rattle.plain_scope.specs.Ordered.{AreOrdered}
-use Rattle.plain_scope.specs.Scope.{check_of, content_of, scope, scope_diags, with_diags}
+use Rattle.plain_scope.specs.Scope.{content_of, scope, scope_diags, with_diags}
 use Rattle.plain_scope.proofs.Order.{AreAmong, among_append, among_rising, are_ordered}
-use Rattle.build_theory.specs.Build.{Outcome, Sound, Failed, Blocked, Judged, Checked, Graph, Behind, environment, first_bad, of_check, order, outcomes, results, sorted, step}
+use Rattle.build_theory.specs.Build.{Outcome, Failed, Blocked, Checked, Graph, Behind, environment, first_bad, of_check, order, outcomes, results, sorted, step}
 use Rattle.plain_build.specs.declared.reading.SourceReading.{SourceReading}
 use Rattle.plain_build.specs.declared.reading.SourceReading.TheVariants.{Whole, Refused}
 use Rattle.plain_build.specs.Plain.{PlainTree, Settings, by_tokens, check_reading, formed, graph_errors, has_node, imported, imports_in, missing_among, missing_at, node_named, outcome_of, plain, reading, unbuilt, unless_none}

@@ -12,7 +12,7 @@ use Rattle.build_theory.specs.Laws as laws
 use Rattle.build_theory.proofs.Lists.{all_shuffled}
 use Rattle.build_theory.proofs.Files.{sorting_shuffles}
 use Rattle.build_theory.proofs.ByNode.{order_is_by_node}
-use Rattle.plain_form.specs.Paths.{node_of}
+use Rattle.mk_base.specs.Paths.{node_of}
 use Rattle.plain_build.specs.declared.build.PlainBuild.{PlainBuild}
 use Rattle.plain_build.specs.declared.done.Done.{Done}
 use Rattle.plain_build.specs.declared.sources.Source.{Source}

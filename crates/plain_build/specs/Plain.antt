@@ -6,6 +6,7 @@ use Rattle.std.specs.Map.{lookup}
 use Rattle.std.specs.Option.{option_map_or}
 use Rattle.std.specs.Ordering.{is_lt}
 use Rattle.mk_base.specs.Order.{node_cmp}
+use Rattle.mk_base.specs.Paths.{node_of}
 use Rattle.mk_base.specs.declared.name.Node.{Node}
 use Rattle.mk_base.specs.declared.diag.Diag.{Diag}
 use Rattle.mk_io.specs.declared.file.File.{File}
@@ -13,7 +14,6 @@ use Rattle.face_model.specs.declared.result.Reason.{Reason}
 use Rattle.face_model.specs.declared.result.Reason.TheVariants.{NoInterface}
 use Rattle.build_theory.specs.Build.{Tree, Language}
 use Rattle.plain_form.specs.Words.{is_con, same_text}
-use Rattle.plain_form.specs.Paths.{node_of}
 use Rattle.mk_base.specs.declared.place.Pos.{Pos}
 use Rattle.hs_syntax.specs.declared.token.Token.{Token}
 use Rattle.hs_lex.specs.Slow.{read_source}

@@ -8,8 +8,8 @@ ghost use Rattle.plain_build.specs.Steps.{pairs};
 
 use mk_base::memory::NoMemory;
 use mk_base::name::{Node, order_nodes};
+use mk_base::path::node_of;
 use mk_io::file::File;
-use plain_form::paths::node_of;
 use std::alloc::Global;
 
 /// The source of a node.

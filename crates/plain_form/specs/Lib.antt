@@ -1,4 +1,3 @@
 pub mod Form
-pub mod Paths
 pub mod Words
 pub mod Steps

@@ -1,10 +1,9 @@
-//! Sources as tokens and paths, with what they are, counted by hand.
+//! Sources as tokens, with what they are, counted by hand.
 //!
 //! A row is a module's name, its tokens and what is read of them, with tildes between; a blank is between two tokens.
 //! A brace or a semicolon with `+` behind it is one that layout put. What is read is the place of the token that leaves
 //! the form, or each import with a comma and then each data type with a semicolon.
 use crate::form::{Reading, Word, form_is_its_spelling, read_form, words_rise_with_lexemes};
-use crate::paths::node_of;
 use hs_syntax::token::{PutSign, Token, TokenKind};
 use mk_base::list::List;
 use mk_base::memory::NoMemory;
@@ -188,60 +187,6 @@ fn tokens_that_end_too_early(rt: HostRuntime) -> Result<(), Fail> {
         if !row.is_empty() {
             assert!(rt; is_read(rt.alloc(), row)?, "{row:?}");
         }
-    }
-    Ok(())
-}
-
-#[test]
-fn paths_of_nodes(rt: HostRuntime) -> Result<(), Fail> {
-    let rows: [(&[u8], &[u8], bool); 9] = [
-        (b"A.hs", b"A", false),
-        (b"A/B.hs", b"A.B", false),
-        (b"A/B/C.hs", b"A.B.C", false),
-        (b"A.hs-boot", b"A", true),
-        (b"A/B.hs-boot", b"A.B", true),
-        (b"Prim/A.hs", b"Prim.A", false),
-        (b"A/Prim.hs", b"A.Prim", false),
-        (b"Primx.hs", b"Primx", false),
-        (b"A_b'1.hs", b"A_b'1", false),
-    ];
-    for (path, module, boot) in rows {
-        match node_of(rt.alloc(), path)? {
-            Some(node) => {
-                assert_eq!(rt; node.module.text.as_slice(), module);
-                assert_eq!(rt; node.boot, boot);
-            }
-            None => assert!(rt; false),
-        }
-    }
-    Ok(())
-}
-
-#[test]
-fn paths_of_no_node(rt: HostRuntime) -> Result<(), Fail> {
-    let paths: [&[u8]; 19] = [
-        b"",
-        b"A",
-        b"hs",
-        b".hs",
-        b".hs-boot",
-        b"a.hs",
-        b"A/b.hs",
-        b"A//B.hs",
-        b"/A.hs",
-        b"A/.hs",
-        b"A.hs.hs",
-        b"A.hs/B.hs",
-        b"A.hs-boot.hs",
-        b"A.HS",
-        b"A.lhs",
-        b"1A.hs",
-        b"A b.hs",
-        b"Prim.hs",
-        b"Prim.hs-boot",
-    ];
-    for path in paths {
-        assert!(rt; node_of(rt.alloc(), path)?.is_none());
     }
     Ok(())
 }

@@ -20,14 +20,14 @@ fn are_letters_or_digits(text: &[u8]) -> bool
 }
 
 /// Whether a byte is a capital letter.
-pub fn is_capital(byte: u8) -> bool
+fn is_capital(byte: u8) -> bool
     ensures { result ≡ spec.is_capital byte }
 {
     byte >= b'A' && byte <= b'Z'
 }
 
 /// Whether a byte is a letter or a digit.
-pub fn is_letter_or_digit(byte: u8) -> bool
+fn is_letter_or_digit(byte: u8) -> bool
     ensures { result ≡ spec.is_letter_or_digit byte }
 {
     is_capital(byte) || byte >= b'a' && byte <= b'z' || byte >= b'0' && byte <= b'9'
