@@ -1,9 +1,9 @@
 -- A node before which there is no cycle stands behind its needs.
-use Rattle.std.proofs.Common.{arith, ◌≡◌, ◌⊎◌, ℕ, zero, suc, ◌+◌, ◌<◌, ◌≤◌, Bool, true, false, not, ◌&&◌, ◌||◌, List, [], ◌∷◌, ◌++◌, map, refl, ap, sym, ◌∙◌, subst, inl, inr, cond}
-use Rattle.std.specs.List.{list_any, list_all}
+use Rattle.std.proofs.Common.{arith, ◌≡◌, ◌⊎◌, ℕ, zero, suc, ◌+◌, ◌<◌, ◌≤◌, Bool, true, false, not, ◌&&◌, ◌||◌, List, [], ◌∷◌, ◌++◌, map, refl, ap, sym, subst, inl, inr, cond}
+use Rattle.std.specs.List.{list_any}
 use Rattle.build_theory.specs.Build.{Tree, Language, is_node, is_need, has, is_ready, order}
-use Rattle.build_theory.specs.Laws.{IsIn, IsExact, AreDistinct}
-use Rattle.build_theory.specs.Machine.{AreTransitive, HasNoCycleBefore, HasPlace, NeedsStandBefore}
+use Rattle.build_theory.specs.Laws.{IsIn, IsExact}
+use Rattle.build_theory.specs.Machine.{AreTransitive, HasNoCycleBefore, NeedsStandBefore}
 use Rattle.build_theory.proofs.Lists.{both_ways, differ, clash, and_both, then_holds, all_holds, any_in, any_of, in_either, in_shuffled}
 use Rattle.build_theory.proofs.Whole.{order_is_whole}
 use Rattle.build_theory.proofs.Points.{taken_at}
