@@ -1,0 +1,6 @@
+//! The header of a module's source: its pragmas, its `module` line and its imports (Haskell 2010 Report, chapter 5).
+#![tactic(auto)]
+
+pub mod name;
+pub mod state;
+pub mod step;
