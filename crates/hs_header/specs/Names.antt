@@ -1,8 +1,8 @@
 -- Names as they stand in a tree.
 use Rattle.std.specs.Prelude.{ℕ, Bool, true, false, ◌&&◌, nat_eq, List, [], ◌∷◌, ◌++◌, None, if◌then◌else◌}
-use Rattle.mk_base.specs.Classes.{class_of}
-use Rattle.mk_base.specs.declared.char_class.CharClass.{CharClass}
-use Rattle.mk_base.specs.declared.char_class.CharClass.TheVariants as class
+use Rattle.hs_lex.specs.Classes.{class_of}
+use Rattle.hs_lex.specs.declared.class.Class.{Class}
+use Rattle.hs_lex.specs.declared.class.Class.TheVariants as class
 use Rattle.source_text.specs.Characters.{characters}
 use Rattle.hs_syntax.specs.declared.name_ref.NameRef.{NameRef}
 use Rattle.hs_syntax.specs.declared.token.Token.{Token}
@@ -22,7 +22,7 @@ dotted [] = []
 dotted (p ∷ []) = p
 dotted (p ∷ ps) = p ++ 46 ∷ dotted ps
 
-abbrev pub is_large : CharClass → Bool
+abbrev pub is_large : Class → Bool
 is_large class.Large = true
 is_large _ = false
 
