@@ -4,5 +4,6 @@
 pub mod extension;
 pub mod header_err;
 pub mod name;
+pub mod read;
 pub mod state;
 pub mod step;
