@@ -1,18 +1,17 @@
 -- The lexemes of a source one after another, up to its end or its first bad place.
 use Rattle.std.specs.Bool.{Decides}
 use Rattle.std.specs.Prelude.{Option, Some, None, if◌then◌else◌}
-use Rattle.std.proofs.Common.{◌≡◌, ℕ, zero, suc, ◌+◌, ◌-◌, ◌*◌, ◌<◌, ◌≤◌, Bool, true, false, List, [], ◌∷◌, ◌++◌, length, refl, ap, sym, ◌∙◌, subst, arith, drop, take, length-drop, length-take}
+use Rattle.std.proofs.Common.{◌≡◌, ℕ, zero, suc, ◌+◌, ◌-◌, ◌*◌, ◌<◌, ◌≤◌, Bool, true, false, List, [], ◌∷◌, ◌++◌, length, refl, ap, sym, ◌∙◌, subst, arith, drop, length-drop, length-take}
 use Rattle.std.proofs.lemmas.Bool.{false≢true}
 use Rattle.mk_base.specs.declared.place.Pos.{Pos}
 use Rattle.hs_syntax.specs.declared.token.Token.{Token}
 use Rattle.hs_syntax.specs.declared.token.TokenKind.{TokenKind}
 use Rattle.hs_lex.specs.declared.item.Kind.{Kind}
 use Rattle.hs_lex.specs.declared.cursor.Cursor.{Cursor}
-use Rattle.hs_lex.specs.declared.cursor.Turn.{Turn}
 use Rattle.hs_lex.specs.Lexemes.{is_nil}
 use Rattle.hs_lex.specs.Items.{NoItem}
-use Rattle.hs_lex.specs.Slow.{item_at, turn_over, Kept, put_first, keep_over, kept_from, lexemes_from}
-use Rattle.hs_lex.specs.Tokens.{position, ahead, tokens_at, token_at, Tokens, IsRead, IsStuck, start, IsNext, IsBlank, IsBadFrom, IsReached, IsWithin}
+use Rattle.hs_lex.specs.Slow.{item_at, turn_over, Kept, put_first, keep_over, kept_from, lexemes_from, lexemes_of}
+use Rattle.hs_lex.specs.Tokens.{position, ahead, tokens_at, token_at, IsRead, IsStuck, start, IsNext, IsBlank, IsBadFrom, IsReached, IsWithin}
 use Rattle.hs_lex.proofs.Decided.{nil_decides}
 use Rattle.hs_lex.proofs.Dispatch.{end_none}
 use Rattle.hs_lex.proofs.Reached.{read_none, read_join, reached_within}
@@ -20,7 +19,7 @@ use Rattle.hs_lex.proofs.Slow.{Stands, stands, shrinks, put}
 use Rattle.hs_lex.proofs.Whole.{same_read}
 
 -- what a reading from a cursor keeps
-abbrev Keeps : List ℕ → Cursor → List Token → Option Pos → Type 0
+abbrev pub Keeps : List ℕ → Cursor → List Token → Option Pos → Type 0
 Keeps source c ts None = (is : List (Kind × List ℕ)) × (d : Cursor) × IsRead source c is ts d × (ahead source d ≡ [])
 Keeps source c ts (Some at) = (is : List (Kind × List ℕ)) × (d : Cursor) × IsRead source c is ts d × IsStuck source d at
 
@@ -104,3 +103,13 @@ pub next_near : (source : List ℕ) (c e : Cursor) (t : Token) → IsReached sou
 next_near source c e t r x =
     let w : IsWithin source x.1 = reached_within source x.1 (r.0 ++ x.0, r.1 ++ [], read_join source r.0 x.0 (start source) c x.1 r.1 [] r.2 x.3) in
     near_by source x.1 x.4.tokens.0.to t x.4.tokens.0.kind x.4.tokens.1 x.4.tokens.3 x.4.tokens.4.0 w
+
+keeps_by : (source : List ℕ) (c : Cursor) (r : Kept) (ts : List Token) (o : Option Pos) → r ≡ (ts, o) → Keeps source c r.0 r.1 → Keeps source c ts o
+keeps_by source c r ts o e h = subst (λ (z : Kept). Keeps source c z.0 z.1) e h
+
+-- The lexemes that are kept are those of the source, up to its first bad place where it has one.
+pub kept_exactly : (source : List ℕ) (ts : List Token) (o : Option Pos) → (lexemes_of source ≡ (ts, o) → Keeps source (start source) ts o) × (Keeps source (start source) ts o → lexemes_of source ≡ (ts, o))
+kept_exactly source ts o =
+    let r = lexemes_from source (start source) in
+    let h = keeps source (start source) in
+    ((λ e. keeps_by source (start source) r ts o e h), (λ k. pair r ts o (keeps_one source (start source) r.0 ts r.1 o h k)))
