@@ -11,16 +11,16 @@ use Rattle.hs_lex.specs.Slow.{Kept, lexemes_from}
 use Rattle.hs_lex.proofs.Kept.{next_kept, blank_kept, bad_kept, next_near}
 use Rattle.hs_header.specs.declared.header_err.HeaderErr.{HeaderErr}
 use Rattle.hs_header.specs.declared.header_err.HeaderErr.TheVariants as error
-use Rattle.hs_header.specs.declared.read.Known.{Known}
+use Rattle.hs_header.specs.declared.read.Progress.{Progress}
 use Rattle.hs_header.specs.declared.read.Reader.{Reader}
 use Rattle.hs_header.specs.declared.read.Next.{Next}
 use Rattle.hs_header.specs.declared.read.Next.TheVariants as next
 use Rattle.hs_header.specs.Reading.{Fault, Lexeme, Grammar, Unknown, over, over_all, at_last, going_on, rest_of, header_of, start, IsFault}
 
-reader : Cursor → Known → Reader
+reader : Cursor → Progress → Reader
 reader c k = record { cursor = c; known = k }
 
-kept : Known → Kept → Result Header Fault
+kept : Progress → Kept → Result Header Fault
 kept k r = over_all k r.0 r.1
 
 -- over the first lexeme
@@ -28,7 +28,7 @@ over_one : (source : List ℕ) (r : Reader) (t : Token) (c : Cursor) → IsNext 
 unfolding over_all kept
 over_one source r t c x = ap (kept r.known) (next_kept source r.cursor c t x)
 
-pub on_is : (source : List ℕ) (r : Reader) (t : Token) (c : Cursor) (m : Known) → IsNext source r.cursor t c → over r.known t ≡ Ok (next.On m) → rest_of source r ≡ rest_of source (record { cursor = c; known = m })
+pub on_is : (source : List ℕ) (r : Reader) (t : Token) (c : Cursor) (m : Progress) → IsNext source r.cursor t c → over r.known t ≡ Ok (next.On m) → rest_of source r ≡ rest_of source (record { cursor = c; known = m })
 on_is source r t c m x e = over_one source r t c x ∙ ap (λ z. going_on z (λ m. over_all m (lexemes_from source c).0 (lexemes_from source c).1)) e
 
 pub whole_is : (source : List ℕ) (r : Reader) (t : Token) (c : Cursor) (h : Header) → IsNext source r.cursor t c → over r.known t ≡ Ok (next.Whole h) → rest_of source r ≡ Ok h

@@ -15,7 +15,7 @@ use Rattle.hs_header.specs.declared.header_err.HeaderErr.{HeaderErr}
 use Rattle.hs_header.specs.declared.header_err.HeaderErr.TheVariants as error
 use Rattle.hs_header.specs.declared.read.Run.{Run}
 use Rattle.hs_header.specs.declared.read.Run.TheVariants as run
-use Rattle.hs_header.specs.declared.read.Known.{Known}
+use Rattle.hs_header.specs.declared.read.Progress.{Progress}
 use Rattle.hs_header.specs.declared.read.Next.{Next}
 use Rattle.hs_header.specs.declared.read.Next.TheVariants as next
 use Rattle.hs_header.specs.declared.read.Reader.{Reader}
@@ -47,26 +47,26 @@ abbrev pub flagged : Header → Flags → Header
 flagged h f = record h { prelude = f.prelude; restrict = f.restrict }
 
 -- before the first lexeme
-abbrev pub start : Known
+abbrev pub start : Progress
 start = record { front = true; layout = layout.start; flags = record { prelude = None; restrict = None }; state = machine.start }
 
 -- over a pragma for LANGUAGE
-abbrev pub by_flags : Known → Result Flags Word → Result Next Fault
+abbrev pub by_flags : Progress → Result Flags Word → Result Next Fault
 by_flags k (Ok f) = Ok (next.On (record k { flags = f }))
 by_flags k (Err w) = Err (Unknown w.0 w.1)
 
 -- over any other lexeme, with the signs before it
-abbrev pub by_run : Known → Token → Run → Result Next Fault
+abbrev pub by_run : Progress → Token → Run → Result Next Fault
 by_run k t (run.On s) = Ok (next.On (record { front = false; layout = after k.layout t; flags = k.flags; state = s }))
 by_run k t (run.Whole h) = Ok (next.Whole (flagged h k.flags))
 by_run k t (run.Leaves at) = Err (Grammar at)
 
 -- Pragmas before the first other lexeme are for LANGUAGE, and the machine doesn't see them.
-abbrev pub is_language : Known → Token → Bool
+abbrev pub is_language : Progress → Token → Bool
 is_language k t = k.front && is_pragma t.kind
 
 -- over a lexeme
-unfoldable pub over : Known → Token → Result Next Fault
+unfoldable pub over : Progress → Token → Result Next Fault
 over k t = if is_language k t then by_flags k (flags_of k.flags t) else by_run k t (steps k.state (pieces k.layout t))
 
 -- at the end of the input, with the signs that layout puts there; where the header isn't whole, the fault is at the last lexeme
@@ -74,25 +74,25 @@ abbrev pub by_ended : Flags → Pos → Option Header → Result Header Fault
 by_ended f last (Some h) = Ok (flagged h f)
 by_ended f last None = Err (Grammar last)
 
-abbrev pub by_last : Known → Run → Result Header Fault
+abbrev pub by_last : Progress → Run → Result Header Fault
 by_last k (run.On s) = by_ended k.flags k.layout.end.at (machine.ended s)
 by_last k (run.Whole h) = Ok (flagged h k.flags)
 by_last k (run.Leaves at) = Err (Grammar at)
 
-unfoldable pub at_last : Known → Result Header Fault
+unfoldable pub at_last : Progress → Result Header Fault
 at_last k = by_last k (steps k.state (map (put_token k.layout.end) (at_end k.layout).puts))
 
-abbrev pub going_on : Result Next Fault → (Known → Result Header Fault) → Result Header Fault
+abbrev pub going_on : Result Next Fault → (Progress → Result Header Fault) → Result Header Fault
 going_on (Ok (next.On k)) on = on k
 going_on (Ok (next.Whole h)) on = Ok h
 going_on (Err e) on = Err e
 
-abbrev pub where_lexemes_end : Known → Option Pos → Result Header Fault
+abbrev pub where_lexemes_end : Progress → Option Pos → Result Header Fault
 where_lexemes_end k None = at_last k
 where_lexemes_end k (Some at) = Err (Lexeme at)
 
 -- over some lexemes, behind which the input ends or a place stands at which no lexeme begins
-unfoldable pub over_all : Known → List Token → Option Pos → Result Header Fault
+unfoldable pub over_all : Progress → List Token → Option Pos → Result Header Fault
 over_all k [] o = where_lexemes_end k o
 over_all k (t ∷ ts) o = going_on (over k t) (λ m. over_all m ts o)
 

@@ -33,7 +33,7 @@ pub enum Run {
 
 /// What is known of a header between two lexemes.
 #[derive(Drop)]
-pub struct Known {
+pub struct Progress {
     /// Whether no lexeme was read but pragmas for LANGUAGE.
     pub front: bool,
     pub layout: Layout,
@@ -44,7 +44,7 @@ pub struct Known {
 /// What a lexeme does: the header goes on, or it is whole.
 #[derive(Drop)]
 pub enum Next {
-    On(Known),
+    On(Progress),
     Whole(Header),
 }
 
@@ -52,7 +52,7 @@ pub enum Next {
 #[derive(Drop)]
 pub struct Reader {
     pub cursor: Cursor,
-    pub known: Known,
+    pub known: Progress,
 }
 
 /// What reading one lexeme comes to.
@@ -89,12 +89,12 @@ fn flagged(header: Header, flags: Flags) -> Header
 }
 
 /// Before the first lexeme.
-fn start(alloc: Global) -> Result<Known, NoMemory>
+fn start(alloc: Global) -> Result<Progress, NoMemory>
     ensures { IfOk result (λ k. k ≡ start) }
 {
     let layout = start_layout(alloc)?;
     let state = start_machine(alloc)?;
-    Ok(Known {
+    Ok(Progress {
         front: true,
         layout,
         flags: Flags {
@@ -105,7 +105,7 @@ fn start(alloc: Global) -> Result<Known, NoMemory>
     })
 }
 
-fn is_language(known: &Known, token: &Token) -> bool
+fn is_language(known: &Progress, token: &Token) -> bool
     ensures { result ≡ is_language known.now token.now }
 {
     match token.kind {
@@ -115,7 +115,7 @@ fn is_language(known: &Known, token: &Token) -> bool
 }
 
 /// Over a pragma for LANGUAGE.
-fn over_language(alloc: Global, known: Known, token: &Token) -> Result<Next, HeaderErr>
+fn over_language(alloc: Global, known: Progress, token: &Token) -> Result<Next, HeaderErr>
     requires line { token.now.at.line + length token.now.text + 1 < 2 ^ 32 }
     requires column { token.now.at.col + 8 * length token.now.text + 8 < 2 ^ 32 }
     ensures { MatchResult result (λ n. by_flags known (flags_of known.flags token.now) ≡ Ok n) (λ e. IsFault (by_flags known (flags_of known.flags token.now)) e) }
@@ -131,10 +131,10 @@ fn over_language(alloc: Global, known: Known, token: &Token) -> Result<Next, Hea
 }
 
 /// Over any other lexeme, with the signs that layout puts before it.
-fn over_pieces(alloc: Global, known: Known, token: &Token) -> Result<Next, HeaderErr>
+fn over_pieces(alloc: Global, known: Progress, token: &Token) -> Result<Next, HeaderErr>
     ensures { MatchResult result (λ n. by_run known token.now (steps known.state (pieces known.layout token.now)) ≡ Ok n) (λ e. IsFault (by_run known token.now (steps known.state (pieces known.layout token.now))) e) }
 {
-    let Known {
+    let Progress {
         front: _,
         mut layout,
         flags,
@@ -145,7 +145,7 @@ fn over_pieces(alloc: Global, known: Known, token: &Token) -> Result<Next, Heade
         return Err(HeaderErr::NoMemory);
     }
     match steps(alloc, state, pieces.as_slice()) {
-        Ok(Run::On(state)) => Ok(Next::On(Known {
+        Ok(Run::On(state)) => Ok(Next::On(Progress {
             front: false,
             layout,
             flags,
@@ -159,7 +159,7 @@ fn over_pieces(alloc: Global, known: Known, token: &Token) -> Result<Next, Heade
 
 /// Over a lexeme.
 #[tactic(auto, unfolding(crate::specs::Reading::over))]
-fn over(alloc: Global, known: Known, token: &Token) -> Result<Next, HeaderErr>
+fn over(alloc: Global, known: Progress, token: &Token) -> Result<Next, HeaderErr>
     requires line { token.now.at.line + length token.now.text + 1 < 2 ^ 32 }
     requires column { token.now.at.col + 8 * length token.now.text + 8 < 2 ^ 32 }
     ensures { MatchResult result (λ n. over known token.now ≡ Ok n) (λ e. IsFault (over known token.now) e) }
@@ -183,10 +183,10 @@ fn whole_or(alloc: Global, state: State, flags: Flags, last: Pos) -> Result<Head
 
 /// At the end of the input.
 #[tactic(auto, unfolding(crate::specs::Reading::at_last))]
-fn at_last(alloc: Global, known: Known) -> Result<Header, HeaderErr>
+fn at_last(alloc: Global, known: Progress) -> Result<Header, HeaderErr>
     ensures { MatchResult result (λ h. at_last known ≡ Ok h) (λ e. IsFault (at_last known) e) }
 {
-    let Known {
+    let Progress {
         front: _,
         layout,
         flags,

@@ -1,7 +1,7 @@
 -- The places of lexemes rise.
 use Rattle.std.specs.Prelude.{◌==◌, ◌&&◌, if◌then◌else◌, map}
 use Rattle.std.specs.List.{AllByRecursion}
-use Rattle.std.proofs.Common.{◌≡◌, ◌⊎◌, inl, inr, ℕ, ◌+◌, ◌*◌, ◌/◌, ◌<◌, ◌≤◌, Bool, true, false, List, [], ◌∷◌, ◌++◌, refl, sym, ◌∙◌, subst, arith, Some, None, Option}
+use Rattle.std.proofs.Common.{◌≡◌, ◌⊎◌, inl, inr, ℕ, ◌+◌, ◌*◌, ◌/◌, ◌<◌, ◌≤◌, Bool, true, false, List, [], ◌∷◌, ◌++◌, refl, ap, sym, ◌∙◌, subst, arith, Some, None, Option}
 use Rattle.std.proofs.lemmas.Bool.Decides.{nat_tests}
 use Rattle.mk_base.specs.Classes.{class_of as class_of_char}
 use Rattle.mk_base.specs.declared.place.Pos.{Pos}
@@ -13,14 +13,14 @@ use Rattle.hs_syntax.specs.declared.token.TokenKind.{TokenKind}
 use Rattle.hs_lex.specs.declared.class.Class.{Class}
 use Rattle.hs_lex.specs.declared.class.Class.TheVariants as class
 use Rattle.hs_lex.specs.declared.item.Kind.{Kind}
-use Rattle.hs_lex.specs.declared.item.Kind.TheVariants.{Blank}
+use Rattle.hs_lex.specs.declared.item.Kind.TheVariants.{Blank, LineComment, NestedComment, SmallName, LargeName, Operator, Number, Fraction, Quoted, Char, Special}
 use Rattle.hs_lex.specs.declared.cursor.Stage.{Stage}
 use Rattle.hs_lex.specs.declared.cursor.Cursor.{Cursor}
 use Rattle.hs_lex.specs.declared.cursor.Turn.{Turn}
 use Rattle.hs_lex.specs.Classes.{class_of}
 use Rattle.hs_lex.specs.Lexemes.{BeginsWith}
-use Rattle.hs_lex.specs.Items.{Is, Leads}
-use Rattle.hs_lex.specs.Tokens.{Counts, IsToken, IsTurn, Lexes, Tokens, moved, position, tokens_at}
+use Rattle.hs_lex.specs.Items.{Is, IsItem, Leads, is_lexeme}
+use Rattle.hs_lex.specs.Tokens.{Counts, IsToken, IsTurn, Lexes, Tokens, ahead, moved, position, token_at, tokens_at}
 use Rattle.hs_lex.proofs.Dispatch.{begins, first}
 
 -- at the place or before it
