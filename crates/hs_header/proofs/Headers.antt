@@ -1,6 +1,6 @@
 -- A header read lexeme by lexeme.
-use Rattle.std.specs.Prelude.{Result, Ok, Err, Some, None, MatchResult, IfOk}
-use Rattle.std.proofs.Common.{◌≡◌, ℕ, ◌+◌, ◌*◌, ◌<◌, ◌≤◌, List, [], ◌∷◌, length, refl, ap, sym, ◌∙◌, subst, arith}
+use Rattle.std.specs.Prelude.{Result, Ok, Err, MatchResult, IfOk}
+use Rattle.std.proofs.Common.{◌≡◌, ℕ, ◌+◌, ◌*◌, ◌<◌, ◌≤◌, List, length, ap, sym, ◌∙◌, subst, arith}
 use Rattle.mk_base.specs.declared.place.Pos.{Pos}
 use Rattle.hs_syntax.specs.declared.header.Header.{Header}
 use Rattle.hs_syntax.specs.declared.token.Token.{Token}
@@ -13,9 +13,8 @@ use Rattle.hs_header.specs.declared.header_err.HeaderErr.{HeaderErr}
 use Rattle.hs_header.specs.declared.header_err.HeaderErr.TheVariants as error
 use Rattle.hs_header.specs.declared.read.Progress.{Progress}
 use Rattle.hs_header.specs.declared.read.Reader.{Reader}
-use Rattle.hs_header.specs.declared.read.Next.{Next}
 use Rattle.hs_header.specs.declared.read.Next.TheVariants as next
-use Rattle.hs_header.specs.Reading.{Fault, Lexeme, Grammar, Unknown, over, over_all, at_last, going_on, rest_of, header_of, start, IsFault}
+use Rattle.hs_header.specs.Reading.{Fault, Lexeme, over, over_all, at_last, going_on, rest_of, header_of, start, IsFault}
 
 reader : Cursor → Progress → Reader
 reader c k = record { cursor = c; known = k }

@@ -1,7 +1,6 @@
 -- The words of a pragma, one after another.
-use Rattle.std.specs.Prelude.{encode_utf8_all, Result, Ok, Err, MatchResult}
-use Rattle.std.proofs.Common.{◌≡◌, ◌≢◌, ℕ, ◌+◌, ◌-◌, ◌*◌, ◌<◌, ◌≤◌, Bool, true, false, List, [], ◌∷◌, ◌++◌, length, Some, None, refl, sym, ap, subst, ◌∙◌, arith, append_assoc}
-use Rattle.std.specs.declared.option.Option.{Option}
+use Rattle.std.specs.Prelude.{encode_utf8_all, Result, Ok, MatchResult}
+use Rattle.std.proofs.Common.{◌≡◌, ℕ, ◌<◌, true, false, List, [], ◌∷◌, ◌++◌, length, Some, None, refl, sym, ap, subst, ◌∙◌, arith, append_assoc}
 use Rattle.std.proofs.lemmas.Bool.{false≢true, cond-true, cond-false}
 use Rattle.std.proofs.lemmas.List.{append-nil}
 use Rattle.source_text.specs.Characters.{characters, AllCharacters, no_character}
@@ -17,7 +16,7 @@ use Rattle.hs_lex.proofs.Reached.{span_some}
 use Rattle.hs_lex.proofs.Runs.{run_begins}
 use Rattle.hs_header.specs.declared.extension.Flags.{Flags}
 use Rattle.hs_header.specs.declared.header_err.HeaderErr.{HeaderErr}
-use Rattle.hs_header.specs.Extensions.{Run, opened, closed, Word, words, behind_keyword, with_words, place_of, flags_of, IsUnknown}
+use Rattle.hs_header.specs.Extensions.{Run, Word, words, behind_keyword, with_words, place_of, flags_of, IsUnknown}
 
 pub passes : (p : Place) (c : ℕ) (cs : List ℕ) → in_part part.Name c ≡ false → words None p (c ∷ cs) ≡ words None (step p c) cs
 unfolding words

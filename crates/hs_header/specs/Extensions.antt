@@ -1,5 +1,5 @@
 -- Pragmas for LANGUAGE: which extensions they name, and what these say.
-use Rattle.std.specs.Prelude.{◌≡◌, ℕ, Bool, true, false, List, [], ◌∷◌, ◌++◌, Option, Some, None, Result, Ok, Err, codes, encode_utf8_all, if◌then◌else◌}
+use Rattle.std.specs.Prelude.{◌≡◌, ℕ, true, false, List, [], ◌∷◌, ◌++◌, Option, Some, None, Result, Ok, Err, codes, encode_utf8_all, if◌then◌else◌}
 use Rattle.std.specs.Str.{bytes_eq}
 use Rattle.mk_base.specs.declared.place.Pos.{Pos}
 use Rattle.source_text.specs.Characters.{characters}

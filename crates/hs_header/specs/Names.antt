@@ -1,5 +1,5 @@
 -- Names as they stand in a tree.
-use Rattle.std.specs.Prelude.{ℕ, Bool, true, false, ◌&&◌, nat_eq, List, [], ◌∷◌, ◌++◌, None, if◌then◌else◌}
+use Rattle.std.specs.Prelude.{ℕ, Bool, true, false, nat_eq, List, [], ◌∷◌, ◌++◌, None, if◌then◌else◌}
 use Rattle.hs_lex.specs.Classes.{class_of}
 use Rattle.hs_lex.specs.declared.class.Class.{Class}
 use Rattle.hs_lex.specs.declared.class.Class.TheVariants as class

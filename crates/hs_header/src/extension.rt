@@ -115,12 +115,7 @@ fn unknown(alloc: Global, place: Place, word: &[u8]) -> HeaderErr
 }
 
 /// The flags with what the words from a place on say, or the first one that is unknown.
-fn with_words(
-    alloc: Global,
-    flags: Flags,
-    place: Place,
-    bytes: &[u8],
-) -> Result<Flags, HeaderErr>
+fn with_words(alloc: Global, flags: Flags, place: Place, bytes: &[u8]) -> Result<Flags, HeaderErr>
     requires line { place.line + length bytes.now + 1 < 2 ^ 32 }
     requires column { place.column + 8 * length bytes.now + 8 < 2 ^ 32 }
     ensures { MatchResult result (λ f. with_words flags (words None place (characters bytes.now)) ≡ Ok f) (λ e. IsUnknown (with_words flags (words None place (characters bytes.now))) e) }

@@ -7,3 +7,5 @@ pub mod name;
 pub mod read;
 pub mod state;
 pub mod step;
+#[cfg(test)]
+mod tests;

@@ -1,4 +1,4 @@
-use Rattle.std.proofs.Common.{◌≡◌, ◌∷◌, ap, sym, ◌∙◌, None, arith}
+use Rattle.std.proofs.Common.{◌∷◌, ap, sym, ◌∙◌, None, arith}
 use Rattle.source_text.specs.Characters.{characters}
 use Rattle.hs_lex.specs.Tokens.{position}
 use Rattle.hs_header.specs.Extensions.{words}

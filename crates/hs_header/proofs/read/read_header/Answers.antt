@@ -1,5 +1,3 @@
-use Rattle.std.specs.Prelude.{Ok, Err}
-use Rattle.hs_header.specs.declared.read.Reader.{Reader}
 use Rattle.hs_header.specs.declared.header_err.HeaderErr.TheVariants as error
 use Rattle.hs_header.proofs.Headers.{all_is, ok_of, fault_of}
 use Rattle.hs_header.proofs.read.read_header.Goals as goal
