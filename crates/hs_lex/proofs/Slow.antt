@@ -106,7 +106,7 @@ best [] done = best_end done (kind_among kinds done []) (among kinds done [])
 best (c ∷ r) done = best_more done r c (item_from (done ++ c ∷ []) r) (kind_among kinds done (c ∷ r)) (best r (done ++ c ∷ [])) (among kinds done (c ∷ r))
 
 -- the item that stands at the front
-abbrev Stands : List ℕ → Option (Kind × List ℕ) → Type 0
+abbrev pub Stands : List ℕ → Option (Kind × List ℕ) → Type 0
 Stands cs (Some i) = (rest : List ℕ) × IsItem i.0 i.1 cs rest
 Stands cs None = NoItem cs
 
@@ -114,7 +114,7 @@ stands_by : (cs : List ℕ) (o : Option (Kind × List ℕ)) → Best [] cs o →
 stands_by cs (Some i) h = (h.0, record { front = h.1; is = h.2; longest = λ j l r x e. h.4 j l r x e (omega arith) })
 stands_by cs None h = λ j l r x e. h j l r x e (omega arith)
 
-stands : (cs : List ℕ) → Stands cs (item_at cs)
+pub stands : (cs : List ℕ) → Stands cs (item_at cs)
 stands cs = stands_by cs (item_from [] cs) (best cs [])
 
 pub standing : (cs : List ℕ) → MatchOption (item_at cs) (NoItem cs) (λ i. (rest : List ℕ) × IsItem i.0 i.1 cs rest)
@@ -146,10 +146,10 @@ module _ (source : List ℕ) (c : Cursor) where
     lands : ahead source (turn_over c k l).to ≡ rest
     lands = items_lead source ((k, l) ∷ []) c (turn_over c k l).to (tokens_at source c (turn_over c k l).kind (turn_over c k l).to ++ []) rest (rest, x, refl) (turn_over c k l, [], turned c k l, refl, (refl, refl))
 
-    shrinks : length (ahead source (turn_over c k l).to) < length (ahead source c)
+    pub shrinks : length (ahead source (turn_over c k l).to) < length (ahead source c)
     shrinks = omega (arith, ap length lands, ap length x.front, length-append l rest, long (first k) l (begins k l rest x.is))
 
-    put : (is : List (Kind × List ℕ)) (ts : List Token) (d : Cursor) → IsRead source (turn_over c k l).to is ts d → IsRead source c ((k, l) ∷ is) (tokens_at source c (turn_over c k l).kind (turn_over c k l).to ++ ts) d
+    pub put : (is : List (Kind × List ℕ)) (ts : List Token) (d : Cursor) → IsRead source (turn_over c k l).to is ts d → IsRead source c ((k, l) ∷ is) (tokens_at source c (turn_over c k l).kind (turn_over c k l).to ++ ts) d
     put is ts d h = record {
       leads = (ahead source (turn_over c k l).to, subst (IsItem k l (ahead source c)) (sym lands) x, h.leads);
       tokens = (turn_over c k l, ts, turned c k l, refl, h.tokens);

@@ -72,7 +72,7 @@ same_leads (i ∷ is) (j ∷ js) cs a b h n k m =
     pair (a, b) (c, d) e f = cc
 
 -- two readings from one cursor that can't go on are one
-same_read : (source : List ℕ) (c : Cursor) (is js : List (Kind × List ℕ)) (ts us : List Token) (d e : Cursor) → IsRead source c is ts d → NoItem (ahead source d) → IsRead source c js us e → NoItem (ahead source e)
+pub same_read : (source : List ℕ) (c : Cursor) (is js : List (Kind × List ℕ)) (ts us : List Token) (d e : Cursor) → IsRead source c is ts d → NoItem (ahead source d) → IsRead source c js us e → NoItem (ahead source e)
     → (ts ≡ us) × (d ≡ e)
 same_read source c is js ts us d e x n y m =
     let s = same_leads is js (ahead source c) (ahead source d) (ahead source e) x.leads n y.leads m in

@@ -8,9 +8,10 @@ ghost use Rattle.hs_lex.specs.declared.item.Kind.{Kind};
 ghost use Rattle.hs_lex.specs.declared.cursor.Cursor.{Cursor};
 ghost use Rattle.hs_lex.specs.declared.cursor.Stage.{Stage};
 ghost use Rattle.hs_lex.specs.Items.{Is, IsItem, NoItem, Leads};
-ghost use Rattle.hs_lex.specs.Tokens.{Lexes, IsFirstBad, IsReached, IsNext, IsBlank, IsBadFrom, IsPlace, IsToken, Tokens, ahead};
+ghost use Rattle.hs_lex.specs.Tokens.{Lexes, IsFirstBad, IsReached, IsNext, IsBlank, IsBadFrom, IsPlace, IsRead, IsStuck, IsToken, Tokens, ahead};
+ghost use Rattle.hs_lex.specs.Tokens as tokens;
 ghost use Rattle.hs_lex.specs.Deciding.{is, is_token};
-ghost use Rattle.hs_lex.specs.Slow.{item_at, read_source};
+ghost use Rattle.hs_lex.specs.Slow.{item_at, lexemes_of, read_source};
 
 use crate::cursor::{Cursor, Turn, position, push_turn, start, token_at, turn_at};
 use hs_syntax::token::{Token, TokenKind};
@@ -146,6 +147,12 @@ pub fn items_are_decided()
 pub fn reading_is_lexing()
     ensures lexes { (source : List ℕ) (ts : List Token) → (read_source source ≡ Ok ts) ↔ Lexes source ts }
     ensures bad { (source : List ℕ) (at : Pos) → (read_source source ≡ Err at) ↔ IsFirstBad source at }
+{}
+
+/// The lexemes that are kept are those of the source where it has no bad place, and else those before its first one.
+pub fn kept_lexemes_are_read()
+    ensures whole { (source : List ℕ) (ts : List Token) → (lexemes_of source ≡ (ts, None)) ↔ Lexes source ts }
+    ensures bad { (source : List ℕ) (ts : List Token) (at : Pos) → (lexemes_of source ≡ (ts, Some at)) ↔ ((is : List (Kind × List ℕ)) × (d : Cursor) × IsRead source (tokens.start source) is ts d × IsStuck source d at) }
 {}
 
 /// Each source has lexemes, or a first place at which nothing begins.

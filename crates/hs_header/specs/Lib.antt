@@ -1,0 +1,4 @@
+pub mod Names
+pub mod Machine
+pub mod Extensions
+pub mod Reading
