@@ -1,4 +1,5 @@
 pub mod Names
+pub mod Terminals
 pub mod Machine
 pub mod Extensions
 pub mod Reading

@@ -1,11 +1,19 @@
 //! The header of a module's source: its pragmas, its `module` line and its imports (Haskell 2010 Report, chapter 5).
 #![tactic(auto)]
 
-pub mod extension;
+mod exports;
+mod extension;
 pub mod header_err;
-pub mod name;
+mod imports;
+mod items;
+mod name;
+mod parts;
 pub mod read;
-pub mod state;
-pub mod step;
+mod state;
+mod step;
+#[cfg(test)]
+mod step_tests;
+mod subs;
+mod terminal;
 #[cfg(test)]
 mod tests;
