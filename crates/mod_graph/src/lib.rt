@@ -1,0 +1,6 @@
+//! The graph of modules.
+#![tactic(auto)]
+
+pub mod prelude;
+#[cfg(test)]
+mod tests;
