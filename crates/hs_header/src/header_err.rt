@@ -1,7 +1,16 @@
 //! Why a source has no header.
 use mk_base::place::Pos;
 use mk_base::text::Text;
+use std::str::from_utf8;
 use thiserror::Error;
+
+/// A name in print; nothing where it isn't UTF-8.
+fn shown(name: &Text) -> &str {
+    match from_utf8(name.as_slice()) {
+        Ok(text) => text,
+        Err(_) => "",
+    }
+}
 
 /// Why a source has no header.
 #[derive(Debug, Drop, Error)]
@@ -14,7 +23,7 @@ pub enum HeaderErr {
     #[error("this is no module header")]
     Grammar(Pos),
     /// A pragma names an extension that isn't known, at this place; its name in UTF-8.
-    #[error("unknown extension")]
+    #[error("unknown extension {}", shown(.name))]
     Extension { at: Pos, name: Text },
     /// Memory ran out.
     #[error("out of memory")]

@@ -10,6 +10,7 @@ use hs_syntax::name_ref::NameRef;
 use mk_base::list::List;
 use mk_base::memory::NoMemory;
 use mk_base::place::Pos;
+use mk_base::text::Text;
 use std::alloc::Global;
 use std::process::Abort;
 use std::test::Fail;
@@ -197,6 +198,20 @@ fn run(rt: &impl Abort, alloc: Global, rows: &str) -> Result<(), NoMemory> {
         let found = shown(alloc, source.as_bytes())?;
         assert!(rt; found.as_slice() == want.as_bytes(), "{row}");
     }
+    Ok(())
+}
+
+/// An unknown extension is told by its name.
+#[test]
+fn messages(rt: HostRuntime) -> Result<(), Fail> {
+    let alloc = rt.alloc();
+    let name = Text::from_slice(alloc, b"GADTs")?;
+    let error = HeaderErr::Extension {
+        at: Pos { line: 1, col: 1 },
+        name,
+    };
+    let message = format!(in alloc; "{error}")?;
+    assert!(rt; message.as_str() == "unknown extension GADTs");
     Ok(())
 }
 
