@@ -1,3 +1,4 @@
 pub mod Names
 pub mod Terminals
 pub mod Machine
+pub mod Grammar

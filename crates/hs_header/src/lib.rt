@@ -4,6 +4,7 @@
 pub mod exports;
 pub mod imports;
 pub mod items;
+pub mod law;
 pub mod name;
 pub mod parts;
 pub mod state;
