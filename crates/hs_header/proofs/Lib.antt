@@ -1,3 +1,4 @@
 pub mod States
 pub mod SubsFound
 pub mod ExportsFound
+pub mod ItemsFound
