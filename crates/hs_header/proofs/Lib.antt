@@ -2,3 +2,5 @@ pub mod States
 pub mod SubsFound
 pub mod ExportsFound
 pub mod ItemsFound
+pub mod ImportsFound
+pub mod Sound
