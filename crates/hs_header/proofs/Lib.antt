@@ -4,3 +4,5 @@ pub mod ExportsFound
 pub mod ItemsFound
 pub mod ImportsFound
 pub mod Sound
+pub mod Complete
+pub mod Spelled

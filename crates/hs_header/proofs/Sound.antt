@@ -25,10 +25,10 @@ grown h is = record { name = h.name; at = h.at; exports = h.exports; imports = h
 abbrev pub BlockFound : Known → List Token → Header → Type 0
 BlockFound k ts h = (b : Block) × (rest : List Token) × (ts ≡ block_tokens b rest) × MayFollow k.put b rest × (grown k.header (block_trees b) ≡ h)
 
-grown-nil : (g : Header) → grown g [] ≡ g
+pub grown-nil : (g : Header) → grown g [] ≡ g
 grown-nil g = ap (λ (is : List ImportItem). let h : Header = record { name = g.name; at = g.at; exports = g.exports; imports = is; prelude = g.prelude; restrict = g.restrict } in h) (append-nil g.imports)
 
-grown-more : (g : Header) (m : ImportItem) (is : List ImportItem) → grown (grown g (m ∷ [])) is ≡ grown g (m ∷ is)
+pub grown-more : (g : Header) (m : ImportItem) (is : List ImportItem) → grown (grown g (m ∷ [])) is ≡ grown g (m ∷ is)
 grown-more g m is = ap (λ (js : List ImportItem). let h : Header = record { name = g.name; at = g.at; exports = g.exports; imports = js; prelude = g.prelude; restrict = g.restrict } in h) (append_assoc g.imports (m ∷ []) is)
 
 ends_at : (a p : Bool) (g h : Header) (f : State → Rattle.hs_header.specs.Grammar.Reading) → turned (ends a p g) f ≡ Read h → (p ≡ a) × (g ≡ h)
@@ -137,7 +137,7 @@ name_found : (m : Leaf Module) (ts : List Token) (h : Header) → read_all (st f
 name_found m [] h r = let q = closed first_known stage.Name h r in absurd (cc)
 name_found m (t ∷ ts) h r = name_at m t ts h (terminal_of t) refl (opened first_known stage.Name t ts h r)
 
-abbrev main_known : Bool → Known
+abbrev pub main_known : Bool → Known
 main_known put = machine.opened (with_exports first_known (main_export ∷ [])) put
 
 main_in : (put : Bool) (o : Leaf (Open put)) (ts : List Token) (h : Header) → BlockFound (main_known put) ts h → IsHeader (o.0 ∷ ts) h
