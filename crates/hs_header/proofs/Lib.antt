@@ -6,3 +6,5 @@ pub mod ImportsFound
 pub mod Sound
 pub mod Complete
 pub mod Spelled
+pub mod Ahead
+pub mod FirstBad
