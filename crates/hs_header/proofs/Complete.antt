@@ -1,36 +1,24 @@
--- What is spelled is read.
-use Rattle.std.proofs.Common.{◌≡◌, ◌⊎◌, inl, inr, ℕ, Bool, true, false, List, [], ◌∷◌, ◌++◌, Some, None, Option, refl, ap, subst, ◌∙◌, sym, append_assoc, append-nil}
-use Rattle.mk_base.specs.declared.place.Pos.{Pos}
-use Rattle.hs_syntax.specs.declared.name_ref.NameRef.{NameRef}
+-- Parts of types and exports that are spelled are read.
+use Rattle.std.proofs.Common.{◌≡◌, List, [], ◌∷◌, ◌++◌, Some, None, refl, ap, subst, ◌∙◌, sym, append_assoc, append-nil}
 use Rattle.hs_syntax.specs.declared.header.Header.{Header}
 use Rattle.hs_syntax.specs.declared.header.ExportItem.{ExportItem}
-use Rattle.hs_syntax.specs.declared.header.IitemTree.{IitemTree}
-use Rattle.hs_syntax.specs.declared.header.ImportItem.{ImportItem}
 use Rattle.hs_syntax.specs.declared.header.SubTree.{SubTree}
 use Rattle.hs_syntax.specs.declared.header.SubTree.TheVariants as sub
-use Rattle.hs_syntax.specs.declared.header.Subs.{Subs}
 use Rattle.hs_syntax.specs.declared.header.Subs.TheVariants as subs
 use Rattle.hs_syntax.specs.declared.token.Token.{Token}
-use Rattle.hs_header.specs.declared.terminal.VarWord.TheVariants.{As, Qualified, Hiding}
 use Rattle.hs_header.specs.declared.terminal.Terminal.{Terminal}
-use Rattle.hs_header.specs.declared.terminal.Terminal.TheVariants.{Open, Close, Next, OpenParen, CloseParen, Comma, Dots, Module, Where, Import, Source, Var, QualifiedVar, VarOperator, QualifiedVarOperator, Con, QualifiedCon, ConOperator}
-use Rattle.hs_header.specs.declared.state.Begun.{Begun}
+use Rattle.hs_header.specs.declared.terminal.Terminal.TheVariants.{OpenParen, CloseParen, Comma, Dots, Module, Var, QualifiedVar, VarOperator, QualifiedVarOperator, Con, QualifiedCon, ConOperator}
 use Rattle.hs_header.specs.declared.state.Former.{Former}
 use Rattle.hs_header.specs.declared.state.Stage.{Stage}
 use Rattle.hs_header.specs.declared.state.Stage.TheVariants as stage
 use Rattle.hs_header.specs.declared.state.Known.{Known}
 use Rattle.hs_header.specs.declared.state.State.{State}
-use Rattle.hs_header.specs.declared.state.Turn.TheVariants.{On, Whole}
-use Rattle.hs_header.specs.Names.{name_ref, module_ref}
-use Rattle.hs_header.specs.Terminals.{terminal_of}
-use Rattle.hs_header.specs.Machine.{start, step, ended, step_at, ends, begun, at_body, at_former_read, behind_former, at_alias_read, at_import_read, at_list_read, with_export, with_exports, with_import, with_item, main_export}
-use Rattle.hs_header.specs.Machine as machine
-use Rattle.hs_header.specs.Grammar.{Leaf, VarLeaf, Variable, ExportVar, PlainVar, DottedVar, ExportOp, PlainOp, DottedOp, ConLeaf, PlainCon, DottedCon, Sub, SubVar, SubCon, SubVarOp, SubConOp, MoreSubs, SubsEnd, SubsMore, Told, Untold, ToldAll, ToldNone, ToldSome, More, ListEnd, CommaEnd, ListMore, Listing, Empty, Lone, Items, Export, OfVar, OfOp, OfType, OfModule, Item, ItemVar, ItemOp, ItemType, Lists, Unlisted, Meant, Hidden, Alias, NoAlias, Called, Flags, NoFlag, Sourced, Dotted, BothFlags, ImportLine, ImportOf, Block, NoMore, Gap, Last, Then, Exports, NoExports, Listed, Front, NoLine, Line, con_token, export_op_token, sub_tokens, more_subs_tokens, told_tokens, more_tokens, listing_tokens, export_tokens, item_tokens, lists_tokens, alias_tokens, flags_tokens, import_tokens, block_tokens, exports_tokens, front_tokens, sub_tree, more_sub_trees, told_tree, more_trees, listing_trees, export_tree, item_tree, lists_tree, alias_tree, import_tree, block_trees, exports_tree, header_of, is_put, MayFollow, IsHeader, Read, behind, turned, read_all}
+use Rattle.hs_header.specs.declared.state.Turn.TheVariants.{On}
+use Rattle.hs_header.specs.Names.{name_ref}
+use Rattle.hs_header.specs.Machine.{step, step_at, at_former_read, behind_former, with_export, with_exports}
+use Rattle.hs_header.specs.Grammar.{Leaf, Variable, PlainVar, DottedVar, PlainOp, DottedOp, ConLeaf, PlainCon, DottedCon, Sub, SubVar, SubCon, SubVarOp, SubConOp, MoreSubs, SubsEnd, SubsMore, Told, Untold, ToldAll, ToldNone, ToldSome, More, ListEnd, CommaEnd, ListMore, Listing, Empty, Lone, Items, Export, OfVar, OfOp, OfType, OfModule, con_token, export_op_token, sub_tokens, more_subs_tokens, told_tokens, more_tokens, listing_tokens, export_tokens, sub_tree, more_sub_trees, told_tree, more_trees, listing_trees, export_tree, Read, behind, turned, read_all}
 use Rattle.hs_header.proofs.States.{st}
 use Rattle.hs_header.proofs.SubsFound.{formed, formed_is, untold_is}
-use Rattle.hs_header.proofs.ItemsFound.{listing}
-use Rattle.hs_header.proofs.ImportsFound.{part, flagged, same_end}
-use Rattle.hs_header.proofs.Sound.{grown, grown-nil, grown-more, known_at, first_known, main_known}
 
 pub one : (k : Known) (g : Stage) (d : Terminal) (l : Leaf d) (n : State) (ts : List Token) (h : Header) → step_at k g d l.0 ≡ On n → read_all n ts ≡ Read h → read_all (st k g) (l.0 ∷ ts) ≡ Read h
 unfolding step
@@ -71,7 +59,7 @@ more_subs_read : (k : Known) (f : Former) (x : MoreSubs) (ss : List SubTree) (ts
 more_subs_read k f (SubsEnd c) ss ts h r = one k (stage.SubRead f ss) CloseParen c (formed k f (Some (subs.Listed ss)) f.import) ts h (formed_is k f (Some (subs.Listed ss)) f.import) (subst (λ zs. Formed k f zs ts h) (append-nil ss) r)
 more_subs_read k f (SubsMore m s x) ss ts h r =
     one k (stage.SubRead f ss) Comma m (st k (stage.SubNext f ss)) (sub_tokens s (more_subs_tokens x ts)) h refl (
-      sub_read k f ss s (more_subs_tokens x ts) h (more_subs_read k f x (ss ++ sub_tree s ∷ []) ts h (subst (λ zs. Formed k f zs ts h) (sym (append_assoc ss (sub_tree s ∷ []) (more_sub_trees x))) r)))
+    sub_read k f ss s (more_subs_tokens x ts) h (more_subs_read k f x (ss ++ sub_tree s ∷ []) ts h (subst (λ zs. Formed k f zs ts h) (sym (append_assoc ss (sub_tree s ∷ []) (more_sub_trees x))) r)))
 
 -- a comma or a closing parenthesis: what may follow an element of a list
 abbrev pub IsBehind : List Token → Type 0
@@ -94,7 +82,7 @@ told_read k f (ToldNone o c) ts h b r =
     one k (stage.FormerRead f) OpenParen o (st k (stage.SubFirst f)) (c.0 ∷ ts) h refl (one k (stage.SubFirst f) CloseParen c (formed k f (Some (subs.Listed [])) f.import) ts h (formed_is k f (Some (subs.Listed [])) f.import) r)
 told_read k f (ToldSome o s x) ts h b r =
     one k (stage.FormerRead f) OpenParen o (st k (stage.SubFirst f)) (sub_tokens s (more_subs_tokens x ts)) h refl (
-      sub_first k f s (more_subs_tokens x ts) h (sub_read k f [] s (more_subs_tokens x ts) h (more_subs_read k f x (sub_tree s ∷ []) ts h r)))
+    sub_first k f s (more_subs_tokens x ts) h (sub_read k f [] s (more_subs_tokens x ts) h (more_subs_read k f x (sub_tree s ∷ []) ts h r)))
 
 -- exports
 
@@ -109,10 +97,10 @@ export_read k (OfVar (PlainVar (Variable w l))) ts h b r = one k stage.ExportNex
 export_read k (OfVar (DottedVar l)) ts h b r = one k stage.ExportNext QualifiedVar l (st (with_export k (export_tree (OfVar (DottedVar l)))) stage.ExportRead) ts h refl r
 export_read k (OfOp o (PlainOp l) c) ts h b r =
     one k stage.ExportNext OpenParen o (st k (stage.ExportOperator o.0.at)) (l.0 ∷ c.0 ∷ ts) h refl (
-      one k (stage.ExportOperator o.0.at) VarOperator l (st k (stage.ExportClose o.0.at (name_ref l.0))) (c.0 ∷ ts) h refl (one k (stage.ExportClose o.0.at (name_ref l.0)) CloseParen c (st (with_export k (export_tree (OfOp o (PlainOp l) c))) stage.ExportRead) ts h refl r))
+    one k (stage.ExportOperator o.0.at) VarOperator l (st k (stage.ExportClose o.0.at (name_ref l.0))) (c.0 ∷ ts) h refl (one k (stage.ExportClose o.0.at (name_ref l.0)) CloseParen c (st (with_export k (export_tree (OfOp o (PlainOp l) c))) stage.ExportRead) ts h refl r))
 export_read k (OfOp o (DottedOp l) c) ts h b r =
     one k stage.ExportNext OpenParen o (st k (stage.ExportOperator o.0.at)) (l.0 ∷ c.0 ∷ ts) h refl (
-      one k (stage.ExportOperator o.0.at) QualifiedVarOperator l (st k (stage.ExportClose o.0.at (name_ref l.0))) (c.0 ∷ ts) h refl (one k (stage.ExportClose o.0.at (name_ref l.0)) CloseParen c (st (with_export k (export_tree (OfOp o (DottedOp l) c))) stage.ExportRead) ts h refl r))
+    one k (stage.ExportOperator o.0.at) QualifiedVarOperator l (st k (stage.ExportClose o.0.at (name_ref l.0))) (c.0 ∷ ts) h refl (one k (stage.ExportClose o.0.at (name_ref l.0)) CloseParen c (st (with_export k (export_tree (OfOp o (DottedOp l) c))) stage.ExportRead) ts h refl r))
 export_read k (OfType c x) ts h b r = type_read k c x ts h b r
 export_read k (OfModule m c) ts h b r =
     one k stage.ExportNext Module m (st k (stage.ExportModule m.0.at)) (con_token c ∷ ts) h refl (con_one k (stage.ExportModule m.0.at) c (st (with_export k (export_tree (OfModule m c))) stage.ExportRead) ts h refl refl r)
@@ -134,8 +122,8 @@ more_exports_read k (CommaEnd m c) es ts h r =
     one (with_exports k es) stage.ExportRead Comma m (st (with_exports k es) stage.ExportNext) (c.0 ∷ ts) h refl (one (with_exports k es) stage.ExportNext CloseParen c (st (with_exports k es) stage.ExportsRead) ts h refl (subst (λ zs. Exported k zs ts h) (append-nil es) r))
 more_exports_read k (ListMore m y x) es ts h r =
     one (with_exports k es) stage.ExportRead Comma m (st (with_exports k es) stage.ExportNext) (export_tokens y (more_tokens export_tokens x ts)) h refl (
-      export_read (with_exports k es) y (more_tokens export_tokens x ts) h (more_behind export_tokens x ts) (
-        more_exports_read k x (es ++ export_tree y ∷ []) ts h (subst (λ zs. Exported k zs ts h) (sym (append_assoc es (export_tree y ∷ []) (more_trees export_tree x))) r)))
+    export_read (with_exports k es) y (more_tokens export_tokens x ts) h (more_behind export_tokens x ts) (
+    more_exports_read k x (es ++ export_tree y ∷ []) ts h (subst (λ zs. Exported k zs ts h) (sym (append_assoc es (export_tree y ∷ []) (more_trees export_tree x))) r)))
 
 pub exports_read : (k : Known) (x : Listing Export) (ts : List Token) (h : Header) → Exported k (listing_trees export_tree x) ts h → read_all (st (with_exports k []) stage.ExportFirst) (listing_tokens export_tokens x ts) ≡ Read h
 exports_read k (Empty c) ts h r = one (with_exports k []) stage.ExportFirst CloseParen c (st (with_exports k []) stage.ExportsRead) ts h refl r

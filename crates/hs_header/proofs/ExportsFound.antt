@@ -1,6 +1,5 @@
 -- Exports and lists of imports are found.
-use Rattle.std.proofs.Common.{◌≡◌, ℕ, zero, suc, ◌≤◌, ◌<◌, List, [], ◌∷◌, ◌++◌, length, Some, None, Option, refl, ap, subst, ◌∙◌, sym, arith, append_assoc, append-nil}
-use Rattle.mk_base.specs.declared.place.Pos.{Pos}
+use Rattle.std.proofs.Common.{◌≡◌, ℕ, zero, suc, ◌<◌, List, [], ◌∷◌, ◌++◌, length, None, refl, ap, subst, ◌∙◌, sym, arith, append_assoc, append-nil}
 use Rattle.hs_syntax.specs.declared.name_ref.NameRef.{NameRef}
 use Rattle.hs_syntax.specs.declared.header.Header.{Header}
 use Rattle.hs_syntax.specs.declared.header.ExportItem.{ExportItem}
@@ -9,13 +8,12 @@ use Rattle.hs_syntax.specs.declared.token.Token.{Token}
 use Rattle.hs_header.specs.declared.terminal.Terminal.{Terminal}
 use Rattle.hs_header.specs.declared.terminal.Terminal.TheVariants.{OpenParen, CloseParen, Comma, Module, Var, QualifiedVar, VarOperator, QualifiedVarOperator, Con, QualifiedCon}
 use Rattle.hs_header.specs.declared.state.Former.{Former}
-use Rattle.hs_header.specs.declared.state.Stage.{Stage}
 use Rattle.hs_header.specs.declared.state.Stage.TheVariants as stage
 use Rattle.hs_header.specs.declared.state.Known.{Known}
 use Rattle.hs_header.specs.Names.{name_ref, module_ref}
 use Rattle.hs_header.specs.Terminals.{terminal_of}
-use Rattle.hs_header.specs.Machine.{step_at, at_export, at_export_first, at_export_next, at_export_module, at_export_operator, at_export_read, with_export, with_exports}
-use Rattle.hs_header.specs.Grammar.{Leaf, Variable, ExportVar, PlainVar, DottedVar, ExportOp, PlainOp, DottedOp, ConLeaf, PlainCon, DottedCon, Told, More, ListEnd, CommaEnd, ListMore, Listing, Empty, Lone, Items, Export, OfVar, OfOp, OfType, OfModule, con_token, export_op_token, export_tokens, export_tree, more_tokens, more_trees, listing_tokens, listing_trees, told_tokens, told_tree, Read, turned, read_all}
+use Rattle.hs_header.specs.Machine.{at_export, at_export_first, at_export_next, at_export_module, at_export_operator, at_export_read, with_export, with_exports}
+use Rattle.hs_header.specs.Grammar.{Leaf, Variable, PlainVar, DottedVar, ExportOp, PlainOp, DottedOp, ConLeaf, PlainCon, DottedCon, More, ListEnd, CommaEnd, ListMore, Listing, Empty, Lone, Items, Export, OfVar, OfOp, OfType, OfModule, con_token, export_op_token, export_tokens, export_tree, more_tokens, more_trees, listing_tokens, listing_trees, Read, turned, read_all}
 use Rattle.hs_header.proofs.States.{st, Found, Closed, onto, opened, closed, closes, less}
 use Rattle.hs_header.proofs.SubsFound.{ToldFound, told_found}
 

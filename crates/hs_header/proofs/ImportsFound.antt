@@ -1,5 +1,5 @@
 -- Imports are found.
-use Rattle.std.proofs.Common.{◌≡◌, ℕ, ◌≤◌, Bool, true, false, List, [], ◌∷◌, length, Some, None, Option, refl, ap, ◌∙◌, sym, arith}
+use Rattle.std.proofs.Common.{◌≡◌, true, false, List, [], ◌∷◌, Some, None, Option, refl, ap, ◌∙◌, sym, arith}
 use Rattle.mk_base.specs.declared.place.Pos.{Pos}
 use Rattle.hs_syntax.specs.declared.name_ref.NameRef.{NameRef}
 use Rattle.hs_syntax.specs.declared.header.Header.{Header}
@@ -13,10 +13,9 @@ use Rattle.hs_header.specs.declared.state.Begun.{Begun}
 use Rattle.hs_header.specs.declared.state.Stage.{Stage}
 use Rattle.hs_header.specs.declared.state.Stage.TheVariants as stage
 use Rattle.hs_header.specs.declared.state.Known.{Known}
-use Rattle.hs_header.specs.declared.state.State.{State}
 use Rattle.hs_header.specs.Names.{module_ref}
 use Rattle.hs_header.specs.Terminals.{terminal_of}
-use Rattle.hs_header.specs.Machine.{step, ended, step_at, ended_at, begun, import_of, with_alias, at_list_hiding, at_alias_read, at_list_read, at_import_as, at_import_read, at_import_first, at_import_marked, at_import_name}
+use Rattle.hs_header.specs.Machine.{step, ended, step_at, ended_at, begun, import_of, at_list_hiding, at_alias_read, at_list_read, at_import_as, at_import_read, at_import_first, at_import_marked, at_import_name}
 use Rattle.hs_header.specs.Grammar.{Leaf, ConLeaf, PlainCon, DottedCon, Lists, Unlisted, Meant, Hidden, Alias, NoAlias, Called, Flags, NoFlag, Sourced, Dotted, BothFlags, ImportLine, ImportOf, con_token, lists_tokens, alias_tokens, flags_tokens, import_tokens, lists_tree, alias_tree, has_source, is_qualified, import_tree, Read, at_end, turned, read_all}
 use Rattle.hs_header.proofs.States.{st, Found, onto, opened, closed, less}
 use Rattle.hs_header.proofs.ItemsFound.{listing, ItemsFound, items_found}
@@ -144,4 +143,7 @@ line_found k i ts h r =
     let (n, v, d, p, m) : NameFound k (flagged i.0.at f) u h = name_found k (flagged i.0.at f) u h q in
     let (a, w, c, s, z) : AliasFound k (flagged i.0.at f) (module_ref (con_token n)) v h = alias_found k (flagged i.0.at f) (module_ref (con_token n)) v h p in
     let (x, y, j, o, e) : ListsFound k (flagged i.0.at f) (module_ref (con_token n)) (alias_tree a) w h = lists_found k (flagged i.0.at f) (module_ref (con_token n)) (alias_tree a) w h s in
-    (ImportOf i f n a x, y, ap (λ z. i.0 ∷ z) (g ∙ ap (flags_tokens f) (d ∙ ap (λ z. con_token n ∷ z) (c ∙ ap (alias_tokens a) j))), o, omega arith)
+    let j1 : v ≡ alias_tokens a (lists_tokens x y) = c ∙ ap (alias_tokens a) j in
+    let j2 : u ≡ con_token n ∷ alias_tokens a (lists_tokens x y) = d ∙ ap (λ z. con_token n ∷ z) j1 in
+    let j3 : ts ≡ flags_tokens f (con_token n ∷ alias_tokens a (lists_tokens x y)) = g ∙ ap (flags_tokens f) j2 in
+    (ImportOf i f n a x, y, ap (λ z. i.0 ∷ z) j3, o, omega arith)

@@ -1,21 +1,19 @@
 -- The lists of imports are found.
-use Rattle.std.proofs.Common.{◌≡◌, ℕ, zero, suc, ◌≤◌, ◌<◌, Bool, List, [], ◌∷◌, ◌++◌, length, Some, None, Option, refl, ap, subst, ◌∙◌, sym, arith, append_assoc, append-nil}
+use Rattle.std.proofs.Common.{◌≡◌, ℕ, zero, suc, ◌<◌, Bool, List, [], ◌∷◌, ◌++◌, length, Some, refl, ap, subst, ◌∙◌, sym, arith, append_assoc, append-nil}
 use Rattle.hs_syntax.specs.declared.header.Header.{Header}
 use Rattle.hs_syntax.specs.declared.header.IitemTree.{IitemTree}
 use Rattle.hs_syntax.specs.declared.header.IitemTree.TheVariants as iitem
 use Rattle.hs_syntax.specs.declared.header.ImportItem.{ImportItem}
-use Rattle.hs_syntax.specs.declared.header.ImportList.{ImportList}
 use Rattle.hs_syntax.specs.declared.token.Token.{Token}
 use Rattle.hs_header.specs.declared.terminal.Terminal.{Terminal}
 use Rattle.hs_header.specs.declared.terminal.Terminal.TheVariants.{OpenParen, CloseParen, Comma, Var, VarOperator, Con}
 use Rattle.hs_header.specs.declared.state.Former.{Former}
-use Rattle.hs_header.specs.declared.state.Stage.{Stage}
 use Rattle.hs_header.specs.declared.state.Stage.TheVariants as stage
 use Rattle.hs_header.specs.declared.state.Known.{Known}
 use Rattle.hs_header.specs.Names.{name_ref}
 use Rattle.hs_header.specs.Terminals.{terminal_of}
-use Rattle.hs_header.specs.Machine.{step_at, at_item, at_item_first, at_item_next, at_item_operator, at_item_read, with_item, with_list}
-use Rattle.hs_header.specs.Grammar.{Leaf, Variable, Told, More, ListEnd, CommaEnd, ListMore, Listing, Empty, Lone, Items, Item, ItemVar, ItemOp, ItemType, item_tokens, item_tree, more_tokens, more_trees, listing_tokens, listing_trees, told_tokens, told_tree, Read, turned, read_all}
+use Rattle.hs_header.specs.Machine.{at_item, at_item_first, at_item_next, at_item_operator, at_item_read, with_item, with_list}
+use Rattle.hs_header.specs.Grammar.{Leaf, Variable, More, ListEnd, CommaEnd, ListMore, Listing, Empty, Lone, Items, Item, ItemVar, ItemOp, ItemType, item_tokens, item_tree, more_tokens, more_trees, listing_tokens, listing_trees, Read, turned, read_all}
 use Rattle.hs_header.proofs.States.{st, Found, Closed, onto, opened, closed, closes, less}
 use Rattle.hs_header.proofs.SubsFound.{ToldFound, told_found}
 

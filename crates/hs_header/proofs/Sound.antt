@@ -1,12 +1,11 @@
 -- What is read is spelled.
-use Rattle.std.proofs.Common.{◌≡◌, ℕ, zero, suc, ◌≤◌, ◌<◌, Bool, true, false, List, [], ◌∷◌, ◌++◌, length, Some, None, Option, refl, ap, subst, ◌∙◌, sym, arith, append_assoc, append-nil}
+use Rattle.std.proofs.Common.{◌≡◌, ℕ, zero, suc, ◌≤◌, ◌<◌, Bool, true, false, List, [], ◌∷◌, ◌++◌, length, None, Option, refl, ap, subst, ◌∙◌, sym, arith, append_assoc, append-nil}
 use Rattle.hs_syntax.specs.declared.header.Header.{Header}
 use Rattle.hs_syntax.specs.declared.header.ExportItem.{ExportItem}
 use Rattle.hs_syntax.specs.declared.header.ImportItem.{ImportItem}
 use Rattle.hs_syntax.specs.declared.token.Token.{Token}
 use Rattle.hs_header.specs.declared.terminal.Terminal.{Terminal}
 use Rattle.hs_header.specs.declared.terminal.Terminal.TheVariants.{Open, Close, Next, OpenParen, Module, Where, Import, Con, QualifiedCon}
-use Rattle.hs_header.specs.declared.state.Stage.{Stage}
 use Rattle.hs_header.specs.declared.state.Stage.TheVariants as stage
 use Rattle.hs_header.specs.declared.state.Known.{Known}
 use Rattle.hs_header.specs.declared.state.State.{State}

@@ -1,34 +1,26 @@
 -- Imports, blocks and headers that are spelled are read.
-use Rattle.std.proofs.Common.{◌≡◌, ◌⊎◌, inl, inr, ℕ, Bool, true, false, List, [], ◌∷◌, ◌++◌, Some, None, Option, refl, ap, subst, ◌∙◌, sym, append_assoc, append-nil}
+use Rattle.std.proofs.Common.{◌≡◌, ◌⊎◌, inl, inr, Bool, true, false, List, [], ◌∷◌, ◌++◌, Some, None, Option, refl, ap, subst, ◌∙◌, sym, append_assoc, append-nil}
 use Rattle.mk_base.specs.declared.place.Pos.{Pos}
 use Rattle.hs_syntax.specs.declared.name_ref.NameRef.{NameRef}
 use Rattle.hs_syntax.specs.declared.header.Header.{Header}
-use Rattle.hs_syntax.specs.declared.header.ExportItem.{ExportItem}
 use Rattle.hs_syntax.specs.declared.header.IitemTree.{IitemTree}
 use Rattle.hs_syntax.specs.declared.header.ImportItem.{ImportItem}
-use Rattle.hs_syntax.specs.declared.header.SubTree.{SubTree}
-use Rattle.hs_syntax.specs.declared.header.SubTree.TheVariants as sub
-use Rattle.hs_syntax.specs.declared.header.Subs.{Subs}
-use Rattle.hs_syntax.specs.declared.header.Subs.TheVariants as subs
 use Rattle.hs_syntax.specs.declared.token.Token.{Token}
 use Rattle.hs_header.specs.declared.terminal.VarWord.TheVariants.{As, Qualified, Hiding}
 use Rattle.hs_header.specs.declared.terminal.Terminal.{Terminal}
-use Rattle.hs_header.specs.declared.terminal.Terminal.TheVariants.{Open, Close, Next, OpenParen, CloseParen, Comma, Dots, Module, Where, Import, Source, Var, QualifiedVar, VarOperator, QualifiedVarOperator, Con, QualifiedCon, ConOperator}
+use Rattle.hs_header.specs.declared.terminal.Terminal.TheVariants.{Open, Close, Next, OpenParen, CloseParen, Comma, Module, Where, Import, Source, Var, VarOperator, Con}
 use Rattle.hs_header.specs.declared.state.Begun.{Begun}
 use Rattle.hs_header.specs.declared.state.Former.{Former}
-use Rattle.hs_header.specs.declared.state.Stage.{Stage}
 use Rattle.hs_header.specs.declared.state.Stage.TheVariants as stage
 use Rattle.hs_header.specs.declared.state.Known.{Known}
-use Rattle.hs_header.specs.declared.state.State.{State}
-use Rattle.hs_header.specs.declared.state.Turn.TheVariants.{On, Whole}
+use Rattle.hs_header.specs.declared.state.Turn.TheVariants.{Whole}
 use Rattle.hs_header.specs.Names.{name_ref, module_ref}
 use Rattle.hs_header.specs.Terminals.{terminal_of}
 use Rattle.hs_header.specs.Machine.{start, step, ended, step_at, ends, begun, at_body, at_former_read, behind_former, at_alias_read, at_import_read, at_list_read, with_export, with_exports, with_import, with_item, main_export}
 use Rattle.hs_header.specs.Machine as machine
-use Rattle.hs_header.specs.Grammar.{Leaf, VarLeaf, Variable, ExportVar, PlainVar, DottedVar, ExportOp, PlainOp, DottedOp, ConLeaf, PlainCon, DottedCon, Sub, SubVar, SubCon, SubVarOp, SubConOp, MoreSubs, SubsEnd, SubsMore, Told, Untold, ToldAll, ToldNone, ToldSome, More, ListEnd, CommaEnd, ListMore, Listing, Empty, Lone, Items, Export, OfVar, OfOp, OfType, OfModule, Item, ItemVar, ItemOp, ItemType, Lists, Unlisted, Meant, Hidden, Alias, NoAlias, Called, Flags, NoFlag, Sourced, Dotted, BothFlags, ImportLine, ImportOf, Block, NoMore, Gap, Last, Then, Exports, NoExports, Listed, Front, NoLine, Line, con_token, export_op_token, sub_tokens, more_subs_tokens, told_tokens, more_tokens, listing_tokens, export_tokens, item_tokens, lists_tokens, alias_tokens, flags_tokens, import_tokens, block_tokens, exports_tokens, front_tokens, sub_tree, more_sub_trees, told_tree, more_trees, listing_trees, export_tree, item_tree, lists_tree, alias_tree, import_tree, block_trees, exports_tree, header_of, is_put, MayFollow, IsHeader, Read, behind, turned, read_all}
+use Rattle.hs_header.specs.Grammar.{Leaf, Variable, ConLeaf, More, ListEnd, CommaEnd, ListMore, Listing, Empty, Lone, Items, Item, ItemVar, ItemOp, ItemType, Lists, Unlisted, Meant, Hidden, Alias, NoAlias, Called, Flags, NoFlag, Sourced, Dotted, BothFlags, ImportLine, ImportOf, Block, NoMore, Gap, Last, Then, Exports, NoExports, Listed, Front, NoLine, Line, con_token, told_tokens, more_tokens, listing_tokens, export_tokens, item_tokens, lists_tokens, alias_tokens, flags_tokens, import_tokens, block_tokens, exports_tokens, front_tokens, more_trees, listing_trees, export_tree, item_tree, lists_tree, alias_tree, import_tree, block_trees, exports_tree, header_of, is_put, MayFollow, IsHeader, Read, turned, read_all}
 use Rattle.hs_header.proofs.States.{st}
 use Rattle.hs_header.proofs.Complete.{one, same, con_one, IsBehind, more_behind, told_read, exports_read}
-use Rattle.hs_header.proofs.SubsFound.{formed, formed_is, untold_is}
 use Rattle.hs_header.proofs.ItemsFound.{listing}
 use Rattle.hs_header.proofs.ImportsFound.{part, flagged, same_end}
 use Rattle.hs_header.proofs.Sound.{grown, grown-nil, grown-more, known_at, first_known, main_known}
@@ -40,7 +32,7 @@ item_read : (k : Known) (m : ImportItem) (x : Item) (ts : List Token) (h : Heade
 item_read k m (ItemVar (Variable w l)) ts h b r = one k (stage.ItemNext m) (Var w) l (st k (stage.ItemRead (with_item m (item_tree (ItemVar (Variable w l)))))) ts h refl r
 item_read k m (ItemOp o l c) ts h b r =
     one k (stage.ItemNext m) OpenParen o (st k (stage.ItemOperator m o.0.at)) (l.0 ∷ c.0 ∷ ts) h refl (
-      one k (stage.ItemOperator m o.0.at) VarOperator l (st k (stage.ItemClose m o.0.at (name_ref l.0))) (c.0 ∷ ts) h refl (one k (stage.ItemClose m o.0.at (name_ref l.0)) CloseParen c (st k (stage.ItemRead (with_item m (item_tree (ItemOp o l c))))) ts h refl r))
+    one k (stage.ItemOperator m o.0.at) VarOperator l (st k (stage.ItemClose m o.0.at (name_ref l.0))) (c.0 ∷ ts) h refl (one k (stage.ItemClose m o.0.at (name_ref l.0)) CloseParen c (st k (stage.ItemRead (with_item m (item_tree (ItemOp o l c))))) ts h refl r))
 item_read k m (ItemType l x) ts h b r = one k (stage.ItemNext m) Con l (st k (stage.FormerRead (imported m l.0))) (told_tokens x ts) h refl (told_read k (imported m l.0) x ts h b r)
 
 item_first : (k : Known) (m : ImportItem) (x : Item) (ts : List Token) (h : Header) → read_all (st k (stage.ItemNext m)) (item_tokens x ts) ≡ Read h → read_all (st k (stage.ItemFirst m)) (item_tokens x ts) ≡ Read h
@@ -57,8 +49,8 @@ more_items_read k m b (CommaEnd d c) is ts h r =
     one k (stage.ItemRead (listing m b is)) Comma d (st k (stage.ItemNext (listing m b is))) (c.0 ∷ ts) h refl (one k (stage.ItemNext (listing m b is)) CloseParen c (st k (stage.ListRead (listing m b is))) ts h refl (subst (λ zs. Enlisted k m b zs ts h) (append-nil is) r))
 more_items_read k m b (ListMore d y x) is ts h r =
     one k (stage.ItemRead (listing m b is)) Comma d (st k (stage.ItemNext (listing m b is))) (item_tokens y (more_tokens item_tokens x ts)) h refl (
-      item_read k (listing m b is) y (more_tokens item_tokens x ts) h (more_behind item_tokens x ts) (
-        more_items_read k m b x (is ++ item_tree y ∷ []) ts h (subst (λ zs. Enlisted k m b zs ts h) (sym (append_assoc is (item_tree y ∷ []) (more_trees item_tree x))) r)))
+    item_read k (listing m b is) y (more_tokens item_tokens x ts) h (more_behind item_tokens x ts) (
+    more_items_read k m b x (is ++ item_tree y ∷ []) ts h (subst (λ zs. Enlisted k m b zs ts h) (sym (append_assoc is (item_tree y ∷ []) (more_trees item_tree x))) r)))
 
 items_read : (k : Known) (m : ImportItem) (b : Bool) (x : Listing Item) (ts : List Token) (h : Header) → Enlisted k m b (listing_trees item_tree x) ts h → read_all (st k (stage.ItemFirst (listing m b []))) (listing_tokens item_tokens x ts) ≡ Read h
 items_read k m b (Empty c) ts h r = one k (stage.ItemFirst (listing m b [])) CloseParen c (st k (stage.ListRead (listing m b []))) ts h refl r
@@ -83,7 +75,7 @@ lists_read k b n a (Meant o x) ts h f r =
     one k (stage.AliasRead (part b n a None)) OpenParen o (st k (stage.ItemFirst (listing (part b n a None) false []))) (listing_tokens item_tokens x ts) h refl (items_read k (part b n a None) false x ts h r)
 lists_read k b n a (Hidden i o x) ts h f r =
     one k (stage.AliasRead (part b n a None)) (Var Hiding) i (st k (stage.ListHiding (listing (part b n a None) true []))) (o.0 ∷ listing_tokens item_tokens x ts) h refl (
-      one k (stage.ListHiding (listing (part b n a None) true [])) OpenParen o (st k (stage.ItemFirst (listing (part b n a None) true []))) (listing_tokens item_tokens x ts) h refl (items_read k (part b n a None) true x ts h r))
+    one k (stage.ListHiding (listing (part b n a None) true [])) OpenParen o (st k (stage.ItemFirst (listing (part b n a None) true []))) (listing_tokens item_tokens x ts) h refl (items_read k (part b n a None) true x ts h r))
 
 -- without an alias
 uncalled_after : (k : Known) (m : ImportItem) (ts : List Token) (h : Header) → IsAfter ts → read_all (st k (stage.AliasRead m)) ts ≡ Read h → read_all (st k (stage.ImportRead m)) ts ≡ Read h
@@ -101,27 +93,27 @@ alias_read : (k : Known) (b : Begun) (n : NameRef) (y : Alias) (x : Lists) (ts :
 alias_read k b n NoAlias x ts h f r = uncalled_read k (part b n None None) x ts h f r
 alias_read k b n (Called i c) x ts h f r =
     one k (stage.ImportRead (part b n None None)) (Var As) i (st k (stage.ImportAs (part b n None None))) (con_token c ∷ lists_tokens x ts) h refl (
-      con_one k (stage.ImportAs (part b n None None)) c (st k (stage.AliasRead (part b n (Some (module_ref (con_token c))) None))) (lists_tokens x ts) h refl refl r)
+    con_one k (stage.ImportAs (part b n None None)) c (st k (stage.AliasRead (part b n (Some (module_ref (con_token c))) None))) (lists_tokens x ts) h refl refl r)
 
 flags_read : (k : Known) (at : Pos) (f : Flags) (c : ConLeaf) (ts : List Token) (h : Header) → read_all (st k (stage.ImportRead (part (flagged at f) (module_ref (con_token c)) None None))) ts ≡ Read h
     → read_all (st k (stage.ImportFirst (flagged at NoFlag))) (flags_tokens f (con_token c ∷ ts)) ≡ Read h
 flags_read k at NoFlag c ts h r = con_one k (stage.ImportFirst (flagged at NoFlag)) c (st k (stage.ImportRead (part (flagged at NoFlag) (module_ref (con_token c)) None None))) ts h refl refl r
 flags_read k at (Sourced s) c ts h r =
     one k (stage.ImportFirst (flagged at NoFlag)) Source s (st k (stage.ImportMarked (flagged at (Sourced s)))) (con_token c ∷ ts) h refl (
-      con_one k (stage.ImportMarked (flagged at (Sourced s))) c (st k (stage.ImportRead (part (flagged at (Sourced s)) (module_ref (con_token c)) None None))) ts h refl refl r)
+    con_one k (stage.ImportMarked (flagged at (Sourced s))) c (st k (stage.ImportRead (part (flagged at (Sourced s)) (module_ref (con_token c)) None None))) ts h refl refl r)
 flags_read k at (Dotted q) c ts h r =
     one k (stage.ImportFirst (flagged at NoFlag)) (Var Qualified) q (st k (stage.ImportName (flagged at (Dotted q)))) (con_token c ∷ ts) h refl (
-      con_one k (stage.ImportName (flagged at (Dotted q))) c (st k (stage.ImportRead (part (flagged at (Dotted q)) (module_ref (con_token c)) None None))) ts h refl refl r)
+    con_one k (stage.ImportName (flagged at (Dotted q))) c (st k (stage.ImportRead (part (flagged at (Dotted q)) (module_ref (con_token c)) None None))) ts h refl refl r)
 flags_read k at (BothFlags s q) c ts h r =
     one k (stage.ImportFirst (flagged at NoFlag)) Source s (st k (stage.ImportMarked (flagged at (Sourced s)))) (q.0 ∷ con_token c ∷ ts) h refl (
-      one k (stage.ImportMarked (flagged at (Sourced s))) (Var Qualified) q (st k (stage.ImportName (flagged at (BothFlags s q)))) (con_token c ∷ ts) h refl (
-        con_one k (stage.ImportName (flagged at (BothFlags s q))) c (st k (stage.ImportRead (part (flagged at (BothFlags s q)) (module_ref (con_token c)) None None))) ts h refl refl r))
+    one k (stage.ImportMarked (flagged at (Sourced s))) (Var Qualified) q (st k (stage.ImportName (flagged at (BothFlags s q)))) (con_token c ∷ ts) h refl (
+    con_one k (stage.ImportName (flagged at (BothFlags s q))) c (st k (stage.ImportRead (part (flagged at (BothFlags s q)) (module_ref (con_token c)) None None))) ts h refl refl r))
 
 line_read : (k : Known) (x : ImportLine) (ts : List Token) (h : Header) → IsAfter ts → read_all (st k (stage.ListRead (import_tree x))) ts ≡ Read h → read_all (st k stage.Body) (import_tokens x ts) ≡ Read h
 line_read k (ImportOf i f n a l) ts h b r =
     one k stage.Body Import i (st k (stage.ImportFirst (begun i.0))) (flags_tokens f (con_token n ∷ alias_tokens a (lists_tokens l ts))) h refl (
-      flags_read k i.0.at f n (alias_tokens a (lists_tokens l ts)) h (
-        alias_read k (flagged i.0.at f) (module_ref (con_token n)) a l ts h b (lists_read k (flagged i.0.at f) (module_ref (con_token n)) (alias_tree a) l ts h b r)))
+    flags_read k i.0.at f n (alias_tokens a (lists_tokens l ts)) h (
+    alias_read k (flagged i.0.at f) (module_ref (con_token n)) a l ts h b (lists_read k (flagged i.0.at f) (module_ref (con_token n)) (alias_tree a) l ts h b r)))
 
 -- the block
 
@@ -159,7 +151,7 @@ block_read (Last i) k (t ∷ ts) h f e = line_read k i (t ∷ ts) h (inr (Close 
 block_read (Then i n b) k ts h f e =
     let l : Known = with_import k (import_tree i) in
     line_read k i (n.0 ∷ block_tokens b ts) h (inr (Next, n, block_tokens b ts, refl, (λ l m. (refl, refl)))) (
-      one k (stage.ListRead (import_tree i)) Next n (st l stage.Body) (block_tokens b ts) h refl (block_read b l ts h f (grown-more k.header (import_tree i) (block_trees b) ∙ e)))
+    one k (stage.ListRead (import_tree i)) Next n (st l stage.Body) (block_tokens b ts) h refl (block_read b l ts h f (grown-more k.header (import_tree i) (block_trees b) ∙ e)))
 
 -- the front
 

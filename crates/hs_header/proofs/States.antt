@@ -1,5 +1,5 @@
 -- How a reading goes on from a state, and what is found where it ends well.
-use Rattle.std.proofs.Common.{◌≡◌, ℕ, suc, ◌≤◌, List, [], ◌∷◌, length, Some, None, Option, refl, ap, ◌∙◌, sym, arith}
+use Rattle.std.proofs.Common.{◌≡◌, ◌≤◌, List, [], ◌∷◌, length, None, refl, ap, ◌∙◌, sym, arith}
 use Rattle.hs_syntax.specs.declared.header.Header.{Header}
 use Rattle.hs_syntax.specs.declared.token.Token.{Token}
 use Rattle.hs_header.specs.declared.terminal.Terminal.{Terminal}
@@ -7,8 +7,6 @@ use Rattle.hs_header.specs.declared.terminal.Terminal.TheVariants.{CloseParen}
 use Rattle.hs_header.specs.declared.state.Stage.{Stage}
 use Rattle.hs_header.specs.declared.state.Known.{Known}
 use Rattle.hs_header.specs.declared.state.State.{State}
-use Rattle.hs_header.specs.declared.state.Turn.{Turn}
-use Rattle.hs_header.specs.declared.state.Turn.TheVariants.{On}
 use Rattle.hs_header.specs.Terminals.{terminal_of}
 use Rattle.hs_header.specs.Machine.{step, ended, step_at, ended_at, at_close}
 use Rattle.hs_header.specs.Grammar.{Leaf, Reading, Read, Bad, Short, at_end, behind, turned, read_all}

@@ -1,6 +1,5 @@
 -- What is told of the parts of a type or class is found.
 use Rattle.std.proofs.Common.{◌≡◌, ℕ, zero, suc, ◌≤◌, ◌<◌, List, [], ◌∷◌, ◌++◌, length, Some, None, Option, refl, ap, subst, ◌∙◌, sym, arith, append_assoc, append-nil}
-use Rattle.mk_base.specs.declared.place.Pos.{Pos}
 use Rattle.hs_syntax.specs.declared.header.Header.{Header}
 use Rattle.hs_syntax.specs.declared.header.ImportItem.{ImportItem}
 use Rattle.hs_syntax.specs.declared.header.SubTree.{SubTree}
@@ -11,16 +10,14 @@ use Rattle.hs_syntax.specs.declared.token.Token.{Token}
 use Rattle.hs_header.specs.declared.terminal.Terminal.{Terminal}
 use Rattle.hs_header.specs.declared.terminal.Terminal.TheVariants.{OpenParen, CloseParen, Comma, Dots, Var, VarOperator, Con, ConOperator}
 use Rattle.hs_header.specs.declared.state.Former.{Former}
-use Rattle.hs_header.specs.declared.state.Stage.{Stage}
 use Rattle.hs_header.specs.declared.state.Stage.TheVariants as stage
 use Rattle.hs_header.specs.declared.state.Known.{Known}
 use Rattle.hs_header.specs.declared.state.State.{State}
-use Rattle.hs_header.specs.declared.state.Turn.{Turn}
 use Rattle.hs_header.specs.declared.state.Turn.TheVariants.{On}
 use Rattle.hs_header.specs.Names.{name_ref}
 use Rattle.hs_header.specs.Terminals.{terminal_of}
 use Rattle.hs_header.specs.Machine.{step_at, at_sub, at_sub_first, at_sub_operator, at_sub_read, at_former_read, whole_former, behind_former, with_export, with_item, export_of, item_of}
-use Rattle.hs_header.specs.Grammar.{Leaf, Variable, Sub, SubVar, SubCon, SubVarOp, SubConOp, MoreSubs, SubsEnd, SubsMore, Told, Untold, ToldAll, ToldNone, ToldSome, sub_tokens, more_subs_tokens, told_tokens, sub_tree, more_sub_trees, told_tree, Read, turned, behind, read_all}
+use Rattle.hs_header.specs.Grammar.{Leaf, Variable, Sub, SubVar, SubCon, SubVarOp, SubConOp, MoreSubs, SubsEnd, SubsMore, Told, Untold, ToldAll, ToldNone, ToldSome, sub_tokens, more_subs_tokens, told_tokens, sub_tree, more_sub_trees, told_tree, Read, turned, read_all}
 use Rattle.hs_header.proofs.States.{st, Found, Closed, onto, opened, closed, closes, less}
 
 -- the state behind a type or class with its parts

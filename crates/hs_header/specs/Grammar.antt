@@ -1,7 +1,6 @@
 -- The grammar of headers (Haskell 2010 Report, sections 5.1 to 5.3): what is written, token for token, and the header that it is.
-use Rattle.std.specs.Prelude.{◌≡◌, ◌⊎◌, ◌↔◌, ℕ, suc, ◌<◌, Bool, true, false, List, [], ◌∷◌, ◌++◌, take, length, Some, None}
+use Rattle.std.specs.Prelude.{◌≡◌, ◌↔◌, ℕ, suc, ◌<◌, Bool, true, false, List, [], ◌∷◌, ◌++◌, take, length, Some, None}
 use Rattle.std.specs.declared.option.Option.{Option}
-use Rattle.mk_base.specs.declared.place.Pos.{Pos}
 use Rattle.hs_syntax.specs.declared.name_ref.NameRef.{NameRef}
 use Rattle.hs_syntax.specs.declared.header.Header.{Header}
 use Rattle.hs_syntax.specs.declared.header.ExportItem.{ExportItem}
