@@ -1,3 +1,13 @@
 pub mod Names
 pub mod Words
 pub mod Headers
+pub mod States
+pub mod SubsFound
+pub mod ExportsFound
+pub mod ItemsFound
+pub mod ImportsFound
+pub mod Sound
+pub mod Complete
+pub mod Spelled
+pub mod Ahead
+pub mod FirstBad

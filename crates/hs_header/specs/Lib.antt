@@ -1,5 +1,6 @@
 pub mod Names
 pub mod Terminals
 pub mod Machine
+pub mod Grammar
 pub mod Extensions
 pub mod Reading

@@ -1,5 +1,5 @@
 -- A header read token by token.
-use Rattle.std.specs.Prelude.{ℕ, Bool, true, false, List, [], ◌∷◌, ◌++◌, Some, None, codes}
+use Rattle.std.specs.Prelude.{Bool, true, false, List, [], ◌∷◌, ◌++◌, Some, None, codes}
 use Rattle.std.specs.declared.option.Option.{Option}
 use Rattle.mk_base.specs.declared.place.Pos.{Pos}
 use Rattle.hs_syntax.specs.declared.name_ref.NameRef.{NameRef}

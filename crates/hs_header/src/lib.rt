@@ -6,6 +6,7 @@ mod extension;
 pub mod header_err;
 mod imports;
 mod items;
+pub mod law;
 mod name;
 mod parts;
 pub mod read;

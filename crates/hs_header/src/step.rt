@@ -111,7 +111,7 @@ fn step_at(
 
 /// The header, where the input ends; None where it isn't whole.
 #[tactic(auto, unfolding(crate::specs::Machine::ended))]
-pub fn ended(_alloc: Global, state: State) -> Result<Option<Header>, NoMemory>
+pub fn ended(alloc: Global, state: State) -> Result<Option<Header>, NoMemory>
     ensures { IfOk result (λ h. h ≡ spec.ended state) }
 {
     let State { stage, known } = state;

@@ -6,6 +6,7 @@
 //! with its column, the exports and each import. Behind `@` stands a tree's column, behind `:` that of its name, where
 //! it is another one. Where nothing is read it is `!` and the column of the token that leaves the grammar, or `!` alone
 //! where the input ends too early.
+use crate::law::header_is_its_spelling;
 use crate::state::Turn;
 use crate::step::{ended, start, step};
 use hs_syntax::header::{ExportItem, Header, IitemTree, ImportItem, SubTree, Subs};
@@ -377,6 +378,7 @@ fn headers(rt: HostRuntime) -> Result<(), Fail> {
             assert!(rt; is_read(rt.alloc(), row)?, "{row:?}");
         }
     }
+    header_is_its_spelling();
     Ok(())
 }
 
