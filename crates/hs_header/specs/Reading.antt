@@ -48,16 +48,16 @@ flagged h f = record h { prelude = f.prelude; restrict = f.restrict }
 
 -- before the first lexeme
 abbrev pub start : Progress
-start = record { front = true; layout = layout.start; flags = record { prelude = None; restrict = None }; state = machine.start }
+start = record { front = true; last = record { line = 1; col = 1 }; layout = layout.start; flags = record { prelude = None; restrict = None }; state = machine.start }
 
 -- over a pragma for LANGUAGE
-abbrev pub by_flags : Progress → Result Flags Word → Result Next Fault
-by_flags k (Ok f) = Ok (next.On (record k { flags = f }))
-by_flags k (Err w) = Err (Unknown w.0 w.1)
+abbrev pub by_flags : Progress → Token → Result Flags Word → Result Next Fault
+by_flags k t (Ok f) = Ok (next.On (record k { last = t.at; flags = f }))
+by_flags k t (Err w) = Err (Unknown w.0 w.1)
 
 -- over any other lexeme, with the signs before it
 abbrev pub by_run : Progress → Token → Run → Result Next Fault
-by_run k t (run.On s) = Ok (next.On (record { front = false; layout = after k.layout t; flags = k.flags; state = s }))
+by_run k t (run.On s) = Ok (next.On (record { front = false; last = t.at; layout = after k.layout t; flags = k.flags; state = s }))
 by_run k t (run.Whole h) = Ok (next.Whole (flagged h k.flags))
 by_run k t (run.Leaves at) = Err (Grammar at)
 
@@ -67,17 +67,17 @@ is_language k t = k.front && is_pragma t.kind
 
 -- over a lexeme
 unfoldable pub over : Progress → Token → Result Next Fault
-over k t = if is_language k t then by_flags k (flags_of k.flags t) else by_run k t (steps k.state (pieces k.layout t))
+over k t = if is_language k t then by_flags k t (flags_of k.flags t) else by_run k t (steps k.state (pieces k.layout t))
 
--- at the end of the input, with the signs that layout puts there; where the header isn't whole, the fault is at the last lexeme
+-- at the end of the input, with the signs that layout puts there; where the header isn't whole, the fault is at the last lexeme, which may be a pragma
 abbrev pub by_ended : Flags → Pos → Option Header → Result Header Fault
 by_ended f last (Some h) = Ok (flagged h f)
 by_ended f last None = Err (Grammar last)
 
 abbrev pub by_last : Progress → Run → Result Header Fault
-by_last k (run.On s) = by_ended k.flags k.layout.end.at (machine.ended s)
+by_last k (run.On s) = by_ended k.flags k.last (machine.ended s)
 by_last k (run.Whole h) = Ok (flagged h k.flags)
-by_last k (run.Leaves at) = Err (Grammar at)
+by_last k (run.Leaves at) = Err (Grammar k.last)
 
 unfoldable pub at_last : Progress → Result Header Fault
 at_last k = by_last k (steps k.state (map (put_token k.layout.end) (at_end k.layout).puts))

@@ -36,6 +36,8 @@ pub enum Run {
 pub struct Progress {
     /// Whether no lexeme was read but pragmas for LANGUAGE.
     pub front: bool,
+    /// The place of the last lexeme, pragmas among them; 1:1 before the first.
+    pub last: Pos,
     pub layout: Layout,
     pub flags: Flags,
     pub state: State,
@@ -96,6 +98,7 @@ fn start(alloc: Global) -> Result<Progress, NoMemory>
     let state = start_machine(alloc)?;
     Ok(Progress {
         front: true,
+        last: Pos { line: 1, col: 1 },
         layout,
         flags: Flags {
             prelude: None,
@@ -118,11 +121,12 @@ fn is_language(known: &Progress, token: &Token) -> bool
 fn over_language(alloc: Global, known: Progress, token: &Token) -> Result<Next, HeaderErr>
     requires line { token.now.at.line + length token.now.text + 1 < 2 ^ 32 }
     requires column { token.now.at.col + 8 * length token.now.text + 8 < 2 ^ 32 }
-    ensures { MatchResult result (λ n. by_flags known (flags_of known.flags token.now) ≡ Ok n) (λ e. IsFault (by_flags known (flags_of known.flags token.now)) e) }
+    ensures { MatchResult result (λ n. by_flags known token.now (flags_of known.flags token.now) ≡ Ok n) (λ e. IsFault (by_flags known token.now (flags_of known.flags token.now)) e) }
 {
     match flags_of(alloc, known.flags, token) {
         Ok(flags) => {
             let mut known = known;
+            known.last = token.at;
             known.flags = flags;
             Ok(Next::On(known))
         }
@@ -136,6 +140,7 @@ fn over_pieces(alloc: Global, known: Progress, token: &Token) -> Result<Next, He
 {
     let Progress {
         front: _,
+        last: _,
         mut layout,
         flags,
         state,
@@ -147,6 +152,7 @@ fn over_pieces(alloc: Global, known: Progress, token: &Token) -> Result<Next, He
     match steps(alloc, state, pieces.as_slice()) {
         Ok(Run::On(state)) => Ok(Next::On(Progress {
             front: false,
+            last: token.at,
             layout,
             flags,
             state,
@@ -188,11 +194,11 @@ fn at_last(alloc: Global, known: Progress) -> Result<Header, HeaderErr>
 {
     let Progress {
         front: _,
+        last,
         layout,
         flags,
         state,
     } = known;
-    let last = layout.end.at;
     let mut signs = TokenList::new(alloc);
     if finish(alloc, layout, &mut signs).is_err() {
         return Err(HeaderErr::NoMemory);
@@ -200,7 +206,7 @@ fn at_last(alloc: Global, known: Progress) -> Result<Header, HeaderErr>
     match steps(alloc, state, signs.as_slice()) {
         Ok(Run::On(state)) => whole_or(alloc, state, flags, last),
         Ok(Run::Whole(header)) => Ok(flagged(header, flags)),
-        Ok(Run::Leaves(at)) => Err(HeaderErr::Grammar(at)),
+        Ok(Run::Leaves(_)) => Err(HeaderErr::Grammar(last)),
         Err(_) => Err(HeaderErr::NoMemory),
     }
 }

@@ -369,6 +369,8 @@ fn cuts(rt: HostRuntime) -> Result<(), Fail> {
         module A (module|grammar 1:11\n\
         import|grammar 1:1\n\
         import qualified|grammar 1:8\n\
+        import {-# SOURCE #-}|grammar 1:8\n\
+        { import {-# SOURCE #-}|grammar 1:10\n\
         import A as|grammar 1:10\n\
         import A hiding|grammar 1:10\n\
         import A (|grammar 1:10\n\
