@@ -14,7 +14,7 @@ abbrev pub file : List ℕ → List ℕ → File
 file path body = record { name = path; bytes = body }
 
 -- what holds at either value of a test holds
-by_test : (b : Bool) → (P : Type 0) → (b ≡ true → P) → (b ≡ false → P) → P
+pub by_test : (b : Bool) → (P : Type 0) → (b ≡ true → P) → (b ≡ false → P) → P
 by_test true P f g = f refl
 by_test false P f g = g refl
 

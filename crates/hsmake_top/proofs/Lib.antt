@@ -1,4 +1,5 @@
 pub mod Files
+pub mod Gone
 pub mod Results
 pub mod Windows
 pub mod Folds

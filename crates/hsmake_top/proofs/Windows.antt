@@ -70,3 +70,4 @@ widened used total (code.Put path body) h s = ((s.0.0, omega (arith, h, s.0.1)),
 widened used total (code.Flags words) h s = (s.0, omega (arith, h, s.1))
 widened used total (code.Build jobs) h s = tt
 widened used total code.Quit h s = tt
+widened used total (code.Del path) h s = (s.0, omega (arith, h, s.1))

@@ -1,7 +1,7 @@
 -- A session: what each command does to the tree and the flags, and what it prints.
-use Rattle.std.specs.Prelude.{◌≡◌, ◌⊎◌, ℕ, ◌+◌, Bool, true, false, ◌||◌, not, List, [], ◌∷◌, ◌++◌, map, take, codes, if◌then◌else◌}
+use Rattle.std.specs.Prelude.{◌≡◌, ◌⊎◌, ℕ, ◌+◌, nat_eq, Bool, true, false, ◌||◌, not, List, [], ◌∷◌, ◌++◌, map, filter, fold, take, codes, if◌then◌else◌}
 use Rattle.std.specs.declared.option.Option.{Option}
-use Rattle.std.specs.List.{list_any, AllByRecursion}
+use Rattle.std.specs.List.{list_any, slice_split, AllByRecursion}
 use Rattle.std.specs.Fmt.{decimal}
 use Rattle.mk_base.specs.declared.name.Node.{Node}
 use Rattle.mk_base.specs.declared.diag.Diag.{Diag}
@@ -11,36 +11,64 @@ use Rattle.face_model.specs.declared.result.Reason.{Reason}
 use Rattle.build_theory.specs.Build.{How, Current, Checked, Graph, Behind, Outcome, Failed, is_sound}
 use Rattle.report.specs.Report as report
 use Rattle.report.specs.Report.{Row, Standing, reason_text, report_of, line}
-use Rattle.session_lang.specs.Spelling.{Said, Put, Flags, Build, Quit}
+use Rattle.session_lang.specs.Spelling.{Said, Put, Flags, Build, Quit, Del}
 use Rattle.session_lang.specs.Script.{limit, IsPlain, IsScript, IsBadScript, spellings}
 use Rattle.plain_form.specs.Words.{same_text}
 use Rattle.plain_scope.specs.declared.scope.Content.{Content}
 use Rattle.plain_build.specs.declared.build.PlainBuild.{PlainBuild}
 use Rattle.plain_build.specs.Result.{PlainJudged, built, checks_in}
 
--- the tree's files, and whether Prelude is imported where nothing else is said
+-- the tree's files, whether Prelude is imported where nothing else is said, and whether the monomorphism restriction holds
 pub record State : Type 0 where
   pub prelude : Bool
+  pub restrict : Bool
   pub files : List File
 
--- a session starts with an empty tree and no flags
+-- a session starts with an empty tree and both flags set
 abbrev pub opening : State
-opening = record { prelude = true; files = [] }
+opening = record { prelude = true; restrict = true; files = [] }
 
 -- a file with these bytes stands where one of that name stood, or at the end
 abbrev pub put_file : List ℕ → List ℕ → List File → List File
 put_file path body [] = record { name = path; bytes = body } ∷ []
 put_file path body (f ∷ fs) = if same_text path f.name then (record { name = path; bytes = body }) ∷ fs else f ∷ put_file path body fs
 
+-- whether a file has this name
+abbrev pub has_file : List ℕ → List File → Bool
+has_file path files = list_any (same_text path) (map (λ (f : File). f.name) files)
+
+-- the files of other names, in their order
+abbrev pub without_file : List ℕ → List File → List File
+without_file path files = filter (λ (f : File). not (same_text path f.name)) files
+
+-- the parts between the spaces of a `flags` command, the first of them empty
+abbrev pub flag_words : List ℕ → List (List ℕ)
+flag_words text = slice_split (λ b. nat_eq b 32) text
+
+-- what a word makes of a flag that one word sets and another one clears
+abbrev pub flag_by : List ℕ → List ℕ → Bool → List ℕ → Bool
+flag_by on off flag word = if same_text word on then true else if same_text word off then false else flag
+
+-- a flag is set before the first word, and each word that speaks of it changes it in turn
+abbrev pub flag_of : List ℕ → List ℕ → List ℕ → Bool
+flag_of on off text = fold (flag_by on off) true (flag_words text)
+
+abbrev pub prelude_of : List ℕ → Bool
+prelude_of text = flag_of (codes "ImplicitPrelude") (codes "NoImplicitPrelude") text
+
+abbrev pub restrict_of : List ℕ → Bool
+restrict_of text = flag_of (codes "MonomorphismRestriction") (codes "NoMonomorphismRestriction") text
+
 abbrev pub after : State → Said → State
-after s (Put path body) = record { prelude = s.prelude; files = put_file path body s.files }
-after s (Flags words) = record { prelude = false; files = s.files }
+after s (Put path body) = record { prelude = s.prelude; restrict = s.restrict; files = put_file path body s.files }
+after s (Flags text) = record { prelude = prelude_of text; restrict = restrict_of text; files = s.files }
 after s (Build n) = s
 after s Quit = s
+after s (Del path) = record { prelude = s.prelude; restrict = s.restrict; files = without_file path s.files }
 
 -- the tree of unit `main`, without anything stored
 abbrev pub input_of : State → PlainBuild
-input_of s = record { unit = record { text = codes "main" }; prelude = s.prelude; restrict = true; files = s.files; store = [] }
+input_of s = record { unit = record { text = codes "main" }; prelude = s.prelude; restrict = s.restrict; files = s.files; store = [] }
 
 abbrev pub results_of : State → List (Node × PlainJudged)
 results_of s = built (input_of s)
@@ -61,8 +89,13 @@ row_of j = record { node = j.0; standing = standing_of j.1.how; diags = diags_of
 abbrev pub build_report : State → List ℕ
 build_report s = report_of (map row_of (results_of s))
 
+-- what `del` says where no file has the name
+abbrev pub no_file_line : List ℕ → List ℕ
+no_file_line path = line (codes "del: no file " ++ path)
+
 abbrev pub reply_of : State → Said → List ℕ
 reply_of s (Build n) = build_report s
+reply_of s (Del path) = if has_file path s.files then [] else no_file_line path
 reply_of s _ = []
 
 -- a build fails where a node isn't sound

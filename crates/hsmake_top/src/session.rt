@@ -1,10 +1,10 @@
 //! The tree and the flags of a session, and what each command does to them.
-ghost use Rattle.std.specs.Prelude.{◌≡◌, ◌≤◌, ◌<◌, ◌+◌, ◌^◌, [], IfOk, OnOk, length, not, is_some, set};
-ghost use Rattle.std.specs.List.{list_any};
+ghost use Rattle.std.specs.Prelude.{◌≡◌, ◌≤◌, ◌<◌, ◌+◌, ◌^◌, [], false, IfOk, OnOk, length, not, is_some, set};
+ghost use Rattle.std.specs.List.{list_any, remove};
 ghost use Rattle.face_model.specs.declared.result.NodeResult.{NodeResult as ResultOfNode};
 ghost use Rattle.session_lang.specs.Meant.{said, AreSpansOf};
-ghost use Rattle.session_lang.specs.Spelling.{IsCommand, Build};
-ghost use Rattle.hsmake_top.specs.Session.{after, build_report, checks, fails, opening, put_file, reply_of};
+ghost use Rattle.session_lang.specs.Spelling.{IsCommand, Build, Del, Flags};
+ghost use Rattle.hsmake_top.specs.Session.{after, build_report, checks, fails, flag_by, flag_of, has_file, no_file_line, opening, put_file, reply_of, without_file};
 ghost use Rattle.hsmake_top.specs.Kept.{IsKept, state_of};
 
 use face_model::result::NodeResult;
@@ -45,6 +45,48 @@ fn replace_file(alloc: Global, files: &mut List<File>, at: usize, file: File)
     *files = List::from_vec(all);
 }
 
+/// Takes out the file that stands at `at`, counted from 0.
+fn remove_file(alloc: Global, files: &mut List<File>, at: usize)
+    requires { at < length files.old }
+    ensures { files.new ≡ remove files.old at }
+{
+    let mut all = mem::replace(files, List::new(alloc)).into_vec();
+    all.remove(at);
+    *files = List::from_vec(all);
+}
+
+/// The line that says that no file has this name.
+fn no_file_text(alloc: Global, path: &[u8]) -> Result<Text, NoMemory>
+    ensures { IfOk result (λ t. t ≡ no_file_line path.now) }
+{
+    let mut text = Text::from_slice(alloc, b"del: no file ")?;
+    text.push_slice(path)?;
+    text.push_slice(b"\n")?;
+    Ok(text)
+}
+
+/// What a word makes of a flag that `on` sets and `off` clears.
+fn flag_by(on: &[u8], off: &[u8], flag: bool, word: &[u8]) -> bool
+    ensures { result ≡ flag_by on.now off.now flag word.now }
+{
+    if word == on {
+        true
+    } else if word == off {
+        false
+    } else {
+        flag
+    }
+}
+
+/// Whether the flag that `on` sets and `off` clears is set behind the words, as it is before the first.
+fn flag_of(words: &[u8], on: &[u8], off: &[u8]) -> bool
+    ensures { result ≡ flag_of on.now off.now words.now }
+{
+    words
+        .split(|byte| *byte == b' ')
+        .fold(true, |flag, word| flag_by(on, off, flag, word))
+}
+
 /// Whether some node has no interface.
 fn any_unsound(nodes: &[NodeResult]) -> bool
     ensures { result ≡ list_any (λ (r : ResultOfNode). not (is_some r.bytes)) nodes.now }
@@ -53,7 +95,7 @@ fn any_unsound(nodes: &[NodeResult]) -> bool
 }
 
 impl Session {
-    /// A session with no file and no flags.
+    /// A session with no file and both flags set.
     pub fn new(alloc: Global) -> Result<Session, NoMemory>
         ensures { IfOk result (λ s. IsKept s × (state_of s ≡ opening)) }
     {
@@ -80,6 +122,7 @@ impl Session {
         ensures kept { OnOk result (IsKept self.new) }
         ensures files { OnOk result (self.new.input.files ≡ put_file path.now body.now self.old.input.files) }
         ensures prelude { OnOk result (self.new.input.prelude ≡ self.old.input.prelude) }
+        ensures restrict { OnOk result (self.new.input.restrict ≡ self.old.input.restrict) }
         ensures few { OnOk result (length self.new.input.files ≤ length self.old.input.files + 1) }
     {
         let name = Text::from_slice(alloc, path)?;
@@ -92,6 +135,59 @@ impl Session {
             replace_file(alloc, &mut self.input.files, at, file);
         }
         Ok(())
+    }
+
+    /// Takes away the file of that name. Whether there was one.
+    fn take_away(&mut self, alloc: Global, path: &[u8]) -> Result<bool, NoMemory>
+        requires { IsKept self.old }
+        ensures kept { OnOk result (IsKept self.new) }
+        ensures found { IfOk result (λ found. found ≡ has_file path.now self.old.input.files) }
+        ensures files { OnOk result (self.new.input.files ≡ without_file path.now self.old.input.files) }
+        ensures prelude { OnOk result (self.new.input.prelude ≡ self.old.input.prelude) }
+        ensures restrict { OnOk result (self.new.input.restrict ≡ self.old.input.restrict) }
+        ensures few { OnOk result (length self.new.input.files ≤ length self.old.input.files) }
+    {
+        let name = Text::from_slice(alloc, path)?;
+        let Some((at, _name)) = self.places.shift_remove_full(&name) else {
+            return Ok(false);
+        };
+        remove_file(alloc, &mut self.input.files, at);
+        Ok(true)
+    }
+
+    /// Takes away the file of that name, or says that there is none.
+    fn delete(&mut self, alloc: Global, path: &[u8]) -> Result<Reply, NoMemory>
+        requires { IsKept self.old }
+        ensures kept { OnOk result (IsKept self.new) }
+        ensures state { OnOk result (state_of self.new ≡ after (state_of self.old) (Del path.now)) }
+        ensures few { OnOk result (length self.new.input.files ≤ length self.old.input.files) }
+        ensures text { IfOk result (λ r. r.text ≡ reply_of (state_of self.old) (Del path.now)) }
+        ensures failed { IfOk result (λ r. r.failed ≡ false) }
+    {
+        let found = self.take_away(alloc, path)?;
+        let text = if found {
+            Text::new(alloc)
+        } else {
+            no_file_text(alloc, path)?
+        };
+        Ok(Reply {
+            text,
+            failed: false,
+        })
+    }
+
+    /// Sets both flags by the words, each with a space before it.
+    fn set_flags(&mut self, words: &[u8])
+        requires { IsKept self.old }
+        ensures kept { IsKept self.new }
+        ensures state { state_of self.new ≡ after (state_of self.old) (Flags words.now) }
+    {
+        self.input.prelude = flag_of(words, b"ImplicitPrelude", b"NoImplicitPrelude");
+        self.input.restrict = flag_of(
+            words,
+            b"MonomorphismRestriction",
+            b"NoMonomorphismRestriction",
+        );
     }
 
     /// Builds the tree, and makes the report.
@@ -135,9 +231,10 @@ impl Session {
                     &bytes[body.start..body.end],
                 )?;
             }
-            Command::Flags(_) => self.input.prelude = false,
+            Command::Flags(words) => self.set_flags(&bytes[words.start..words.end]),
             Command::Build(_) => return self.build(alloc, steps),
             Command::Quit => {}
+            Command::Del(path) => return self.delete(alloc, &bytes[path.start..path.end]),
         }
         Ok(Reply {
             text: Text::new(alloc),

@@ -99,6 +99,24 @@ A.hs:'x;B.hs:module B where~import A|A: checked: no interface~A.hs:1:1: error E0
 A.hs:module A where;B.hs:module B where~import A~data T = \"|A: checked: no interface~B: checked: no interface~B.hs:3:10: error E01: no lexeme begins here~build: 1 ok, 2 checked, 1 failed, 0 blocked~
 ";
 
+// A line is how a session ends (D for Done, F for Failed, B for BadScript), its script and its output.
+const COMMANDS: &str = "
+F|flags NoImplicitPrelude~put A.hs 15~module A where~~put B.hs 24~module B where~import A~~del A.hs~build 1~quit~|B: failed~B.hs:2:8: error E10: module A not found~build: 0 ok, 0 checked, 1 failed, 0 blocked~
+D|del A.hs~quit~|del: no file A.hs~
+F|flags NoImplicitPrelude~del x~put A.hs 5~x = 1~build 1~quit~|del: no file x~A: checked: no interface~A.hs:1:1: error E00: this form is not built yet~build: 0 ok, 1 checked, 1 failed, 0 blocked~
+D|flags NoImplicitPrelude~put A.hs 1~x~del A.hs~del A.hs~put A.hs 15~module A where~~build 1~quit~|del: no file A.hs~A: checked: no interface~build: 1 ok, 1 checked, 0 failed, 0 blocked~
+D|flags NoImplicitPrelude~put C.hs 1~x~put B.hs 1~x~put A.hs 1~x~del B.hs~put C.hs 15~module C where~~del A.hs~build 1~quit~|C: checked: no interface~build: 1 ok, 1 checked, 0 failed, 0 blocked~
+D|flags NoImplicitPrelude~put A.hs 15~module A where~~build 1~del A.hs~build 1~quit~|A: checked: no interface~build: 1 ok, 1 checked, 0 failed, 0 blocked~build: 0 ok, 0 checked, 0 failed, 0 blocked~
+D|put A.hs 1~x~del A.h~quit~|del: no file A.h~
+B|put A.hs 1~x~del A.hs~del A.hs~del ~quit~|del: no file A.hs~bad script at byte 31~
+F|flags NoImplicitPrelude~flags~put A.hs 15~module A where~~build 1~quit~|A: checked: no interface~A.hs:1:1: error E00: this form is not built yet~build: 0 ok, 1 checked, 1 failed, 0 blocked~
+F|flags NoImplicitPrelude~flags Haskell2010~put A.hs 15~module A where~~build 1~quit~|A: checked: no interface~A.hs:1:1: error E00: this form is not built yet~build: 0 ok, 1 checked, 1 failed, 0 blocked~
+F|flags NoImplicitPrelude ImplicitPrelude~put A.hs 15~module A where~~build 1~quit~|A: checked: no interface~A.hs:1:1: error E00: this form is not built yet~build: 0 ok, 1 checked, 1 failed, 0 blocked~
+D|flags ImplicitPrelude NoImplicitPrelude~put A.hs 15~module A where~~build 1~quit~|A: checked: no interface~build: 1 ok, 1 checked, 0 failed, 0 blocked~
+D|flags Haskell2010 NoImplicitPrelude NoMonomorphismRestriction~put A.hs 15~module A where~~build 1~quit~|A: checked: no interface~build: 1 ok, 1 checked, 0 failed, 0 blocked~
+B|flags NoImplicitPrelude Haskell98~quit~|bad script at byte 0~
+";
+
 /// The bytes with a line feed for each tilde and a semicolon for each caret.
 fn lines_of(alloc: Global, text: &[u8]) -> Result<Vec<u8>, NoMemory> {
     let mut lines = Vec::new(alloc);
@@ -162,6 +180,39 @@ fn is_answered<R: Threads>(threads: &R, alloc: Global, row: &[u8]) -> Result<boo
         }
     }
     Ok(true)
+}
+
+/// Whether the row's session, in pieces of any size, ends and prints as it says.
+fn is_played<R: Threads>(threads: &R, alloc: Global, row: &[u8]) -> Result<bool, Fail> {
+    let (end, row) = cut_at(row, b'|');
+    let (script, output) = cut_at(row, b'|');
+    let script = lines_of(alloc, script)?;
+    let output = lines_of(alloc, output)?;
+    let expected = if end == b"D".as_slice() {
+        Status::Done
+    } else if end == b"F".as_slice() {
+        Status::Failed
+    } else {
+        Status::BadScript
+    };
+    for piece in [1usize, 2, 1000] {
+        let (status, written) = answer(threads, alloc, &script, piece, &[], &[])?;
+        if written.as_slice() != output.as_slice() || status != expected {
+            return Ok(false);
+        }
+    }
+    Ok(true)
+}
+
+#[test]
+fn commands_are_carried_out(rt: HostRuntime) -> Result<(), Fail> {
+    for row in COMMANDS.as_bytes().split(|byte| *byte == b'\n') {
+        if !row.is_empty() {
+            let alike = is_played(&rt, rt.alloc(), row)?;
+            assert!(rt; alike, "{row:?}");
+        }
+    }
+    Ok(())
 }
 
 #[test]

@@ -78,6 +78,7 @@ fn is_quit(command: Command) -> bool
         Command::Put { path: _, body: _ } => false,
         Command::Flags(_) => false,
         Command::Build(_) => false,
+        Command::Del(_) => false,
     }
 }
 

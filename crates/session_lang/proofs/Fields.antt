@@ -8,7 +8,7 @@ use denote.Bor.{Bor}
 use Rattle.session_lang.specs.declared.front.Front.{Front}
 use Rattle.session_lang.specs.declared.front.Front.TheVariants.{Whole, More, Bad}
 use Rattle.session_lang.specs.Front.{Tells, either_of}
-use Rattle.session_lang.specs.Spelling.{Said, Put, Flags, Build, Quit, IsPath, IsCommand, spelling, line, spaced}
+use Rattle.session_lang.specs.Spelling.{Said, Put, Flags, Build, Quit, Del, IsPath, IsCommand, spelling, line, spaced}
 use Rattle.session_lang.specs.Meant.{form}
 use Rattle.session_lang.proofs.Laws.{path_free, number_free}
 use Rattle.session_lang.proofs.Seq as seq
@@ -103,11 +103,12 @@ OfForm n c = IsCommand c × (form c ≡ n)
 lt_or_eq : (m n : ℕ) → m < n + 1 → (m < n) ⊎ (m ≡ n)
 lt_or_eq m n h = elim (eq-or-lt_of_le {n = m} {m = n} (omega (arith, h))) [ inl e ↦ inr e | inr l ↦ inl l ]
 
-form_below : (c : Said) → form c < 4
+form_below : (c : Said) → form c < 5
 form_below (Put path body) = omega arith
 form_below (Flags words) = omega arith
 form_below (Build n) = omega arith
 form_below Quit = omega arith
+form_below (Del path) = omega arith
 
 module _ {T : Type 0} (view : T → Said) (bytes : List ℕ) where
   -- one form more
@@ -122,5 +123,5 @@ module _ {T : Type 0} (view : T → Said) (bytes : List ℕ) where
   pub first_form : (r : Front T) → Tells (OfForm 0) spelling view bytes r → Tells (Below 1) spelling view bytes r
   first_form r h = weaken (OfForm 0) (Below 1) spelling view bytes (λ c v. (v.0, omega (arith, v.1))) (λ c v. (v.0, omega (arith, v.1))) r h
 
-  pub all_forms : (r : Front T) → Tells (Below 4) spelling view bytes r → Tells IsCommand spelling view bytes r
-  all_forms r h = weaken (Below 4) IsCommand spelling view bytes (λ c v. v.0) (λ c v. (v, form_below c)) r h
+  pub all_forms : (r : Front T) → Tells (Below 5) spelling view bytes r → Tells IsCommand spelling view bytes r
+  all_forms r h = weaken (Below 5) IsCommand spelling view bytes (λ c v. v.0) (λ c v. (v, form_below c)) r h

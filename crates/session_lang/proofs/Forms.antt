@@ -2,13 +2,13 @@
 use Rattle.std.proofs.Common.{◌≡◌, ℕ, List, [], ◌∷◌, ◌++◌, length, codes, get_or, refl, ap, sym, ◌∙◌, append_assoc}
 use Rattle.std.proofs.lemmas.List.{append_cancel_left}
 use Rattle.std.specs.Fmt.{decimal}
-use Rattle.session_lang.specs.Spelling.{Said, Put, Flags, Build, Quit, IsCommand, spelling, line, spaced}
+use Rattle.session_lang.specs.Spelling.{Said, Put, Flags, Build, Quit, Del, IsCommand, spelling, line, spaced}
 use Rattle.session_lang.specs.Meant.{form}
 use Rattle.session_lang.proofs.Seq.{longer}
 
 -- the word of each form, up to what the command says
 abbrev pub words : List (List ℕ)
-words = codes "put " ∷ codes "flags " ∷ codes "build " ∷ line (codes "quit") ∷ []
+words = codes "put " ∷ codes "flags" ∷ codes "build " ∷ line (codes "quit") ∷ codes "del " ∷ []
 
 abbrev pub word : ℕ → List ℕ
 word k = get_or words k []
@@ -18,12 +18,14 @@ tail (Put path body) = spaced path ++ (line (decimal (length body)) ++ line body
 tail (Flags words) = line words
 tail (Build n) = line (decimal n)
 tail Quit = []
+tail (Del path) = line path
 
 pub by_word : (c : Said) → spelling c ≡ word (form c) ++ tail c
 by_word (Put path body) = refl
 by_word (Flags flags) = refl
 by_word (Build n) = refl
 by_word Quit = refl
+by_word (Del path) = refl
 
 module _ (k : ℕ) (bytes : List ℕ) where
   abbrev pub Refuted : Type 0

@@ -3,9 +3,10 @@ use Rattle.std.proofs.Common.{◌≡◌, ℕ, ◌<◌, ◌≤◌, ◌^◌, ◌+�
 use Rattle.std.specs.Fmt.{decimal}
 use Rattle.std.proofs.lemmas.Fmt.{digits_decimal, digits_value-decimal}
 use Rattle.session_lang.specs.Numbers.{IsDigitByte, value_on}
-use Rattle.session_lang.specs.Spelling.{Said, Put, Flags, Build, Quit, IsCommand, IsPath, IsFlagWords, IsWordByte, spelling, line, spaced}
+use Rattle.session_lang.specs.Spelling.{Said, Put, Flags, Build, Quit, Del, IsCommand, IsPath, IsFlagWords, IsWordByte, spelling, line, spaced}
 use Rattle.session_lang.proofs.Split.{ends, same_len}
 use Rattle.session_lang.proofs.Numbers.{own}
+use Rattle.session_lang.proofs.Words.{IsTextByte, all_text}
 
 pub path_free : (stop : ℕ) → stop ≤ 32 → (a b x y : List ℕ) → IsPath a → IsPath b → (a ++ stop ∷ []) ++ x ≡ (b ++ stop ∷ []) ++ y → (a ≡ b) × (x ≡ y)
 path_free stop low a b x y p q e =
@@ -28,8 +29,9 @@ sized_free a b x y p q e =
 
 pub flags_free : (a b x y : List ℕ) → IsFlagWords a → IsFlagWords b → line a ++ x ≡ line b ++ y → (a ≡ b) × (x ≡ y)
 flags_free a b x y p q e =
-    let s = same_len a b (10 ∷ x) (10 ∷ y) (ap length (p ∙ sym q)) (sym (append_assoc a (10 ∷ []) x) ∙ e ∙ append_assoc b (10 ∷ []) y) in
-    (s.0, (let k : x ≡ y = cc in k))
+    let out = λ (h : IsTextByte 10). let k : ⊥ = omega (arith, h) in k in
+    let s = ends IsTextByte 10 10 out out a b x y (all_text a p) (all_text b q) (sym (append_assoc a (10 ∷ []) x) ∙ e ∙ append_assoc b (10 ∷ []) y) in
+    (sym s.0, s.2)
 
 -- the two bytes that tell a command from the others
 abbrev initial : Said → ℕ
@@ -37,6 +39,7 @@ initial (Put path body) = 112 * 256 + 117
 initial (Flags words) = 102 * 256 + 108
 initial (Build n) = 98 * 256 + 117
 initial Quit = 113 * 256 + 117
+initial (Del path) = 100 * 256 + 101
 
 pub free : (c d : Said) (x y : List ℕ) → IsCommand c → IsCommand d → spelling c ++ x ≡ spelling d ++ y → (c ≡ d) × (x ≡ y)
 free (Put a b) (Put c d) x y p q e =
@@ -52,4 +55,7 @@ free (Build m) (Build n) x y p q e =
     let f : line (decimal m) ++ x ≡ line (decimal n) ++ y = cc in
     let s = number_free 10 (omega arith) m n x y (omega (arith, p)) (omega (arith, q)) f in (ap Build s.0, s.1)
 free Quit Quit x y p q e = (refl, (let k : x ≡ y = cc in k))
+free (Del a) (Del b) x y p q e =
+    let f : line a ++ x ≡ line b ++ y = cc in
+    let s = path_free 10 (omega arith) a b x y p q f in (ap Del s.0, s.1)
 free c d x y p q e = let h : initial c ≡ initial d = ap (λ s. get_or s 0 0 * 256 + get_or s 1 0) e in absurd (omega arith)

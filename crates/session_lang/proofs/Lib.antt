@@ -1,6 +1,7 @@
 pub mod Split
 pub mod Paths
 pub mod Numbers
+pub mod Words
 pub mod Laws
 pub mod Seq
 pub mod Forms

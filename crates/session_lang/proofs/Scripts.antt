@@ -3,7 +3,7 @@ use Rattle.std.proofs.Common.{◌≡◌, ◌≢◌, ℕ, ◌<◌, ◌+◌, ◌�
 use Rattle.std.specs.List.{AllByRecursion}
 use Rattle.std.proofs.lemmas.List.{append-nil, append_cancel_left}
 use Rattle.std.proofs.lemmas.Grind.{flat_map-append}
-use Rattle.session_lang.specs.Spelling.{Said, Put, Flags, Build, Quit, IsCommand, spelling}
+use Rattle.session_lang.specs.Spelling.{Said, Put, Flags, Build, Quit, Del, IsCommand, spelling}
 use Rattle.session_lang.specs.Script.{IsPlain, IsCut, GoesOn, BeginsNone, spellings, ScriptsHaveOneReading, GoodIsNotBad, BadPlacesAreOne}
 use Rattle.session_lang.proofs.Laws.{free}
 use Rattle.session_lang.proofs.Next.{not_both}
@@ -66,6 +66,7 @@ some_spelling (Put path body) = omega arith
 some_spelling (Flags words) = omega arith
 some_spelling (Build n) = omega arith
 some_spelling Quit = omega arith
+some_spelling (Del path) = omega arith
 
 -- the commands so far, and the next
 pub one_more : (bytes : List ℕ) (cs : List Said) (c : Said) (x rest : List ℕ) → bytes ≡ spellings cs ++ x → x ≡ spelling c ++ rest → bytes ≡ spellings (cs ++ c ∷ []) ++ rest

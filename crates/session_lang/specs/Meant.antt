@@ -7,7 +7,7 @@ use Rattle.session_lang.specs.declared.command.Parsed.{Parsed}
 use Rattle.session_lang.specs.declared.command.Parsed.TheVariants as parsed
 use Rattle.session_lang.specs.declared.piece.Piece.{Piece}
 use Rattle.session_lang.specs.declared.piece.Piece.TheVariants as piece
-use Rattle.session_lang.specs.Spelling.{Said, Put, Flags, Build, Quit}
+use Rattle.session_lang.specs.Spelling.{Said, Put, Flags, Build, Quit, Del}
 
 -- the bytes of a span
 abbrev pub within : List ℕ → Span → List ℕ
@@ -18,6 +18,7 @@ said bytes (code.Put path body) = Put (within bytes path) (within bytes body)
 said bytes (code.Flags words) = Flags (within bytes words)
 said bytes (code.Build jobs) = Build jobs
 said bytes code.Quit = Quit
+said bytes (code.Del path) = Del (within bytes path)
 
 -- a span lies in the first `used` bytes
 abbrev pub IsSpanOf : ℕ → Span → Type 0
@@ -28,6 +29,7 @@ AreSpansOf used (code.Put path body) = IsSpanOf used path × IsSpanOf used body
 AreSpansOf used (code.Flags words) = IsSpanOf used words
 AreSpansOf used (code.Build jobs) = Unit {0}
 AreSpansOf used code.Quit = Unit {0}
+AreSpansOf used (code.Del path) = IsSpanOf used path
 
 -- the answer is this command, and how many bytes it takes
 abbrev pub IsWholeOf : List ℕ → Parsed → Said → ℕ → Type 0
@@ -55,6 +57,7 @@ form (Put path body) = 0
 form (Flags words) = 1
 form (Build jobs) = 2
 form Quit = 3
+form (Del path) = 4
 
 -- what a command says whose parts are lent from the bytes
 abbrev pub said_by : Piece → Said
@@ -62,3 +65,4 @@ said_by (piece.Put path body) = Put path.now body.now
 said_by (piece.Flags words) = Flags words.now
 said_by (piece.Build jobs) = Build jobs
 said_by piece.Quit = Quit
+said_by (piece.Del path) = Del path.now

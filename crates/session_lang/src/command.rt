@@ -18,12 +18,14 @@ pub struct Span {
 pub enum Command {
     /// `put PATH LEN` and a line feed, LEN bytes and a line feed: the file at `path` holds `body`.
     Put { path: Span, body: Span },
-    /// `flags WORDS` and a line feed: the words from here on.
+    /// `flags`, any number of words with a space before each, and a line feed: the flags from here on. The span holds the words and the spaces.
     Flags(Span),
     /// `build JOBS` and a line feed: a build by so many jobs.
     Build(u32),
     /// `quit` and a line feed.
     Quit,
+    /// `del PATH` and a line feed: the file at the path is gone.
+    Del(Span),
 }
 
 /// What some bytes begin with.
@@ -55,11 +57,15 @@ fn placed(piece: Piece<'_>, used: usize) -> Command
             },
         },
         Piece::Flags(words) => Command::Flags(Span {
-            start: 6,
-            end: 6 + words.len(),
+            start: 5,
+            end: 5 + words.len(),
         }),
         Piece::Build(jobs) => Command::Build(jobs),
         Piece::Quit => Command::Quit,
+        Piece::Del(path) => Command::Del(Span {
+            start: 4,
+            end: 4 + path.len(),
+        }),
     }
 }
 
@@ -118,13 +124,13 @@ mod tests {
 
     #[test]
     fn reads_first_commands(rt: HostRuntime) {
-        let rows: [(&[u8], Parsed); 17] = [
+        let rows: [(&[u8], Parsed); 16] = [
             (b"put A.hs 3\nabc\n", put((4, 8), (11, 14), 15)),
             (b"put A.hs 0\n\nquit\n", put((4, 8), (11, 11), 12)),
             (b"put x 12\nput A.hs 3\na\nrest", put((4, 5), (9, 21), 22)),
             (
                 b"flags NoImplicitPrelude\nbuild 1\n",
-                whole(Command::Flags(Span { start: 6, end: 23 }), 24),
+                whole(Command::Flags(Span { start: 5, end: 23 }), 24),
             ),
             (b"build 1\n", whole(Command::Build(1), 8)),
             (b"quit\nand anything", whole(Command::Quit, 5)),
@@ -137,8 +143,64 @@ mod tests {
             (b"put A.hs 3\nabcd", Parsed::Bad),
             (b"put A.hs 1048577", Parsed::Bad),
             (b"put  3\nabc\n", Parsed::Bad),
-            (b"flags ImplicitPrelude\n", Parsed::Bad),
             (b"Quit\n", Parsed::Bad),
+        ];
+        for (bytes, parsed) in rows {
+            assert_eq!(rt; next_command(bytes), parsed);
+        }
+    }
+
+    #[test]
+    fn reads_words_of_flags(rt: HostRuntime) {
+        let rows: [(&[u8], Parsed); 17] = [
+            (
+                b"flags\nquit\n",
+                whole(Command::Flags(Span { start: 5, end: 5 }), 6),
+            ),
+            (
+                b"flags Haskell2010 ImplicitPrelude\n",
+                whole(Command::Flags(Span { start: 5, end: 33 }), 34),
+            ),
+            (
+                b"flags NoMonomorphismRestriction\n\n",
+                whole(Command::Flags(Span { start: 5, end: 31 }), 32),
+            ),
+            (
+                b"flags MonomorphismRestriction\n",
+                whole(Command::Flags(Span { start: 5, end: 29 }), 30),
+            ),
+            (b"flags", Parsed::More),
+            (b"flags ", Parsed::More),
+            (b"flags NoImplicitPrelude", Parsed::More),
+            (b"flags NoImplicitPrelude ", Parsed::More),
+            (b"flags NoImplicitPrelude No", Parsed::More),
+            (b"flags \n", Parsed::Bad),
+            (b"flags NoImplicitPrelude \n", Parsed::Bad),
+            (b"flags  ImplicitPrelude\n", Parsed::Bad),
+            (b"flags implicitPrelude", Parsed::Bad),
+            (b"flags ImplicitPreludes\n", Parsed::Bad),
+            (b"flags NoHaskell2010", Parsed::Bad),
+            (b"flags Haskell2010\tImplicitPrelude\n", Parsed::Bad),
+            (b"flagsX", Parsed::Bad),
+        ];
+        for (bytes, parsed) in rows {
+            assert_eq!(rt; next_command(bytes), parsed);
+        }
+    }
+
+    #[test]
+    fn reads_deletions(rt: HostRuntime) {
+        let rows: [(&[u8], Parsed); 7] = [
+            (
+                b"del A.hs\nquit\n",
+                whole(Command::Del(Span { start: 4, end: 8 }), 9),
+            ),
+            (b"del", Parsed::More),
+            (b"del ", Parsed::More),
+            (b"del A.hs", Parsed::More),
+            (b"del \n", Parsed::Bad),
+            (b"del A.hs \n", Parsed::Bad),
+            (b"del A.hs 0\n\n", Parsed::Bad),
         ];
         for (bytes, parsed) in rows {
             assert_eq!(rt; next_command(bytes), parsed);

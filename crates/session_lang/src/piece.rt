@@ -2,7 +2,7 @@
 ghost use Rattle.std.specs.Prelude.{◌≡◌, ℕ, ◌≤◌, ◌++◌, ◌∷◌, [], List, length, codes};
 ghost use Rattle.std.specs.Fmt.{decimal};
 ghost use Rattle.session_lang.specs.Front.{Tells, either_of};
-ghost use Rattle.session_lang.specs.Spelling.{IsCommand, IsPath, IsFlagWords, spelling, line, spaced};
+ghost use Rattle.session_lang.specs.Spelling.{IsCommand, IsPath, IsFlagWord, IsFlagWords, spelling, line, spaced};
 ghost use Rattle.session_lang.specs.Meant.{form, said_by};
 
 use crate::front::Front;
@@ -15,6 +15,7 @@ pub enum Piece<'a> {
     Flags(&'a [u8]),
     Build(u32),
     Quit,
+    Del(&'a [u8]),
 }
 
 /// A length, a line feed, so many bytes and a line feed.
@@ -44,15 +45,44 @@ fn file_at(bytes: &[u8]) -> Front<'_, (&[u8], &[u8])>
     }
 }
 
-/// The words of a `flags` command, up to the line feed.
-fn flag_words_at(bytes: &[u8]) -> Front<'_, &[u8]>
-    ensures { Tells IsFlagWords line (λ words. words.now) bytes.now result }
+/// This very text, which is handed back.
+fn same_at<'a>(bytes: &'a [u8], text: &'a [u8]) -> Front<'a, &'a [u8]>
+    ensures { Tells {A = List ℕ} (λ word. word ≡ text.now) (λ word. word) (λ word. word.now) bytes.now result }
 {
-    match text_at(bytes, b"NoImplicitPrelude\n") {
-        Front::Whole(_, rest) => Front::Whole(&bytes[..17], rest),
+    match text_at(bytes, text) {
+        Front::Whole(_, rest) => Front::Whole(text, rest),
         Front::More => Front::More,
         Front::Bad => Front::Bad,
     }
+}
+
+/// A space and a word of a `flags` command.
+fn flag_word_at(bytes: &[u8]) -> Front<'_, &[u8]>
+    ensures { Tells {A = List ℕ} IsFlagWord (λ word. word) (λ word. word.now) bytes.now result }
+{
+    let read = same_at(bytes, b" ImplicitPrelude");
+    let read = either(read, same_at(bytes, b" NoImplicitPrelude"));
+    let read = either(read, same_at(bytes, b" MonomorphismRestriction"));
+    let read = either(read, same_at(bytes, b" NoMonomorphismRestriction"));
+    either(read, same_at(bytes, b" Haskell2010"))
+}
+
+/// The words of a `flags` command, each behind a space, up to the line feed.
+fn flag_words_at(bytes: &[u8]) -> Front<'_, &[u8]>
+    ensures { Tells IsFlagWords line (λ words. words.now) bytes.now result }
+{
+    let mut at = 0;
+    while at < bytes.len() {
+        if bytes[at] == 10 {
+            return Front::Whole(&bytes[..at], &bytes[at + 1..]);
+        }
+        match flag_word_at(&bytes[at..]) {
+            Front::Whole(word, _) => at += word.len(),
+            Front::More => return Front::More,
+            Front::Bad => return Front::Bad,
+        }
+    }
+    Front::More
 }
 
 fn put_at(bytes: &[u8]) -> Front<'_, Piece<'_>>
@@ -72,7 +102,7 @@ fn put_at(bytes: &[u8]) -> Front<'_, Piece<'_>>
 fn flags_at(bytes: &[u8]) -> Front<'_, Piece<'_>>
     ensures { Tells (λ c. IsCommand c × (form c ≡ 1)) spelling said_by bytes.now result }
 {
-    match text_at(bytes, b"flags ") {
+    match text_at(bytes, b"flags") {
         Front::Whole(_, rest) => match flag_words_at(rest) {
             Front::Whole(words, rest) => Front::Whole(Piece::Flags(words), rest),
             Front::More => Front::More,
@@ -107,14 +137,28 @@ fn quit_at(bytes: &[u8]) -> Front<'_, Piece<'_>>
     }
 }
 
+fn del_at(bytes: &[u8]) -> Front<'_, Piece<'_>>
+    ensures { Tells (λ c. IsCommand c × (form c ≡ 4)) spelling said_by bytes.now result }
+{
+    match text_at(bytes, b"del ") {
+        Front::Whole(_, rest) => match path_at(rest, b'\n') {
+            Front::Whole(path, rest) => Front::Whole(Piece::Del(path), rest),
+            Front::More => Front::More,
+            Front::Bad => Front::Bad,
+        },
+        Front::More => Front::More,
+        Front::Bad => Front::Bad,
+    }
+}
+
 /// The first of two that is whole, and else more where one is.
-fn either<'a>(first: Front<'a, Piece<'a>>, second: Front<'a, Piece<'a>>) -> Front<'a, Piece<'a>>
+fn either<'a, T: Copy>(first: Front<'a, T>, second: Front<'a, T>) -> Front<'a, T>
     ensures { result ≡ either_of first.entry second.entry }
 {
     match first {
-        Front::Whole(piece, rest) => Front::Whole(piece, rest),
+        Front::Whole(found, rest) => Front::Whole(found, rest),
         Front::More => match second {
-            Front::Whole(piece, rest) => Front::Whole(piece, rest),
+            Front::Whole(found, rest) => Front::Whole(found, rest),
             Front::More | Front::Bad => Front::More,
         },
         Front::Bad => second,
@@ -128,5 +172,6 @@ pub fn piece_at(bytes: &[u8]) -> Front<'_, Piece<'_>>
     let read = put_at(bytes);
     let read = either(read, flags_at(bytes));
     let read = either(read, build_at(bytes));
-    either(read, quit_at(bytes))
+    let read = either(read, quit_at(bytes));
+    either(read, del_at(bytes))
 }

@@ -1,4 +1,4 @@
-use Rattle.std.proofs.Common.{codes, refl}
+use Rattle.std.proofs.Common.{[], refl}
 use Rattle.session_lang.specs.Spelling.{Flags}
 use Rattle.session_lang.proofs.Forms.{other_word, part_of_word, part_of_tail}
 use Rattle.session_lang.proofs.piece.flags_at.Goals as goal
@@ -9,7 +9,7 @@ returns-in-More-flag_words_at c =
     part_of_tail 1 c.args.bytes.now c.in-Whole.rest.now c.in-Whole.ensures.1 (Flags h.0) h.1 h.2 refl h.3 h.4
 
 pub returns-in-More : goal.returns-in-More
-returns-in-More c = let h = c.in-More.ensures in part_of_word 1 c.args.bytes.now h.1 h.3 h.4 (Flags (codes "NoImplicitPrelude")) refl refl
+returns-in-More c = let h = c.in-More.ensures in part_of_word 1 c.args.bytes.now h.1 h.3 h.4 (Flags []) ([], refl) refl
 
 pub returns-in-Bad : goal.returns-in-Bad
 returns-in-Bad c = other_word 1 c.args.bytes.now c.in-Bad.ensures

@@ -10,7 +10,7 @@ use Rattle.hsmake_top.proofs.Results.{reported, unsound}
 use Rattle.hsmake_top.proofs.session.Session.build.Goals as goal
 
 input_is : (s : Session) → IsKept s → s.input ≡ input_of (state_of s)
-input_is s k = λ i. record { unit = record { text = k.unit i }; prelude = s.input.prelude; restrict = k.restrict i; files = s.input.files; store = k.store i }
+input_is s k = λ i. record { unit = record { text = k.unit i }; prelude = s.input.prelude; restrict = s.input.restrict; files = s.input.files; store = k.store i }
 
 results_are : (s : Session) (rs : List NodeResult) → IsKept s → AreResults s.input.unit.text (nodes_in (built s.input)) rs (built s.input)
     → AreResults s.input.unit.text (nodes_in (results_of (state_of s))) rs (results_of (state_of s))
