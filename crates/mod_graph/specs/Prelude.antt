@@ -1,5 +1,5 @@
 -- The implicit import of Prelude (Haskell 2010 Report, section 5.6.1).
-use Rattle.std.specs.Prelude.{ℕ, nat_eq, Bool, true, false, ◌&&◌, not, List, [], ◌∷◌, None, codes, if◌then◌else◌}
+use Rattle.std.specs.Prelude.{nat_eq, Bool, false, ◌&&◌, not, List, [], ◌∷◌, None, codes, if◌then◌else◌}
 use Rattle.std.specs.List.{list_any}
 use Rattle.std.specs.Cmp.Lexicographic.{pointwise}
 use Rattle.mk_base.specs.declared.place.Pos.{Pos}
