@@ -70,3 +70,18 @@ pub fn with_prelude(alloc: Global, header: &Header, prelude: bool) -> Result<Hea
         restrict: header.restrict,
     })
 }
+
+/// The imports of the effective header of a module.
+pub fn effective_imports(
+    alloc: Global,
+    header: &Header,
+    prelude: bool,
+) -> Result<List<ImportItem>, NoMemory>
+    ensures { IfOk result (λ is. is ≡ (spec.with_prelude header.now prelude).imports) }
+{
+    let imports = header.imports.as_slice();
+    if prelude && !names_prelude(imports) {
+        return behind_implicit(alloc, imports);
+    }
+    header.imports.copy(alloc)
+}

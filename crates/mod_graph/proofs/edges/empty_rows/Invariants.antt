@@ -1,0 +1,6 @@
+use Rattle.std.proofs.Common.{◌≡◌, [], replicate}
+use Rattle.node_reach.specs.Edges.{lists}
+use Rattle.mod_graph.proofs.edges.empty_rows.Given as goal
+
+abbrev pub invariant-loop-turn : goal.invariant-loop-turn
+invariant-loop-turn l = lists l.rows.items ≡ replicate l.turn []
