@@ -3,7 +3,8 @@ ghost use Rattle.std.specs.Prelude.{◌≡◌, IfOk};
 ghost use Rattle.plain_form.specs.Form as spec;
 ghost use Rattle.plain_form.specs.Form.{FormIsSpelled, WordsRise};
 
-use crate::step::{ended, start, step};
+use crate::step::{ended, start, step, told};
+use crate::token::is_pragma;
 use hs_syntax::token::Token;
 use mk_base::list::List;
 use mk_base::memory::NoMemory;
@@ -26,34 +27,39 @@ pub struct DataItem {
     pub fields: List<Word>,
 }
 
-/// A module of the form: what it imports and declares, in the order of its source.
+/// A module of the form: the data types that it declares, in the order of its source.
 #[derive(Debug, Drop)]
 pub struct Written {
-    pub imports: List<Word>,
     pub datas: List<DataItem>,
 }
 
-/// A source that was read: a module of the form, or the place of the first lexeme that leaves the form.
+/// A source that was read: a module of the form, or the place of the first part that leaves the form.
 #[derive(Debug, Drop)]
 pub enum Reading {
     Form(Written),
     Leaves(Pos),
 }
 
-/// Reads the source of the module with this name, from its tokens with the braces and semicolons that layout put.
+/// Reads a source from its tokens with the braces and semicolons that layout put. Pragmas are passed over.
 ///
-/// The form is `module NAME where {`, imports of lesser modules other than `Prim`, then data types, and `}`, with
-/// semicolons between them; each name is a word of ASCII letters and digits that begins with a capital. Where the
-/// tokens end too early the last one counts as the one that leaves the form; where there is none, it is 1:1.
-pub fn read_form(alloc: Global, name: &[u8], tokens: &[Token]) -> Result<Reading, NoMemory>
-    ensures { IfOk result (λ r. r ≡ spec.read_form name.now tokens.now) }
+/// The form is `module M where {`, imports `import M` of any modules but `Prim`, then data types, and `}`, with
+/// semicolons between them, where parts may be empty. The names of data types, constructors and fields are words of
+/// ASCII letters and digits that begin with a capital. What leaves the form is told at 1:1 where it is the first token,
+/// in an import at its `import`, and else at its own place. Where the tokens end too early the last one counts as what
+/// leaves the form; where there is none, it is 1:1.
+pub fn read_form(alloc: Global, tokens: &[Token]) -> Result<Reading, NoMemory>
+    ensures { IfOk result (λ r. r ≡ spec.read_form tokens.now) }
 {
     let mut state = start(alloc);
     let mut last = Pos { line: 1, col: 1 };
     for token in tokens {
-        match step(alloc, name, state, token)? {
+        if is_pragma(token.kind) {
+            continue;
+        }
+        let at = told(&state.stage, token);
+        match step(alloc, state, token)? {
             Some(next) => state = next,
-            None => return Ok(Reading::Leaves(token.at)),
+            None => return Ok(Reading::Leaves(at)),
         }
         last = token.at;
     }

@@ -1,5 +1,6 @@
 //! A reading of tokens, one by one.
 use crate::form::{DataItem, Word, Written};
+use mk_base::place::Pos;
 
 /// What comes next.
 #[derive(Debug, Drop)]
@@ -12,16 +13,14 @@ pub enum Stage {
     Where,
     /// The opening brace.
     Open,
-    /// The first item, or the closing brace.
+    /// A part: an import, a data type or nothing.
     Body,
-    /// The name of an imported module.
-    Import,
-    /// What is behind an import.
-    Imported,
-    /// An import or a data type.
-    NextItem,
-    /// A data type.
-    NextData,
+    /// The name of an imported module, behind the `import` at this place.
+    Import(Pos),
+    /// What is behind the import at this place.
+    Imported(Pos),
+    /// A part behind a data type: a data type or nothing.
+    Datas,
     /// The name of a data type.
     DataType,
     /// `=`, behind the name of a data type.

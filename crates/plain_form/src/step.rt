@@ -1,12 +1,12 @@
 //! One step of a reading.
-ghost use Rattle.std.specs.Prelude.{◌≡◌, [], IfOk, false};
+ghost use Rattle.std.specs.Prelude.{◌≡◌, IfOk, false};
 ghost use Rattle.plain_form.specs.Form as spec;
 ghost use Rattle.plain_form.specs.Steps.{reading};
 ghost use Rattle.plain_form.specs.declared.state.Stage.TheVariants as stage;
 
 use crate::form::{DataItem, Reading, Word, Written};
 use crate::state::{Stage, State};
-use crate::token::{is_closing, is_import, is_name, is_next, is_text, opened, word_of};
+use crate::token::{is_closing, is_import, is_module, is_name, is_next, is_text, opened, word_of};
 use hs_syntax::token::Token;
 use mk_base::list::List;
 use mk_base::memory::NoMemory;
@@ -21,20 +21,14 @@ pub fn start(alloc: Global) -> State
         stage: Stage::Start,
         put: false,
         written: Written {
-            imports: List::new(alloc),
             datas: List::new(alloc),
         },
     }
 }
 
-/// The state behind a token of the source of the module with this name; None where the token leaves the form.
-pub fn step(
-    alloc: Global,
-    name: &[u8],
-    state: State,
-    token: &Token,
-) -> Result<Option<State>, NoMemory>
-    ensures { IfOk result (λ next. next ≡ spec.step name.now state token.now) }
+/// The state behind a token that is no pragma; None where the token leaves the form.
+pub fn step(alloc: Global, state: State, token: &Token) -> Result<Option<State>, NoMemory>
+    ensures { IfOk result (λ next. next ≡ spec.step state token.now) }
 {
     let State {
         stage,
@@ -43,19 +37,30 @@ pub fn step(
     } = state;
     match stage {
         Stage::Start => Ok(at_text(token, b"module", Stage::Name, put, written)),
-        Stage::Name => Ok(at_text(token, name, Stage::Where, put, written)),
+        Stage::Name => Ok(on(is_module(token), Stage::Where, put, written)),
         Stage::Where => Ok(at_text(token, b"where", Stage::Open, put, written)),
         Stage::Open => Ok(at_open(written, token)),
-        Stage::Body => Ok(at_body(put, written, token)),
-        Stage::Import => at_import(alloc, name, put, written, token),
-        Stage::Imported => Ok(behind_item(put, written, Stage::NextItem, token)),
-        Stage::NextItem => Ok(at_item(put, written, token)),
-        Stage::NextData => Ok(at_data(put, written, token)),
+        Stage::Body => Ok(at_part(put, written, token)),
+        Stage::Import(at) => Ok(on(is_import(token), Stage::Imported(at), put, written)),
+        Stage::Imported(_) => Ok(behind_part(put, written, Stage::Body, token)),
+        Stage::Datas => Ok(at_data(put, written, Stage::Datas, token)),
         Stage::DataType => at_type(alloc, put, written, token),
         Stage::DataEquals(ty) => Ok(at_text(token, b"=", Stage::DataCon(ty), put, written)),
         Stage::DataCon(ty) => at_con(alloc, put, written, ty, token),
         Stage::Fields(item) => at_field(alloc, put, written, item, token),
         Stage::End => Ok(None),
+    }
+}
+
+/// The place that is told of a token that leaves the form at this stage.
+pub fn told(stage: &Stage, token: &Token) -> Pos
+    ensures { result ≡ spec.told stage.now token.now }
+{
+    match stage {
+        Stage::Start => Pos { line: 1, col: 1 },
+        Stage::Import(at) => *at,
+        Stage::Imported(at) => *at,
+        _ => token.at,
     }
 }
 
@@ -69,11 +74,11 @@ pub fn ended(state: State, last: Pos) -> Reading
     }
 }
 
-/// The next state, where the token is this lexeme.
-fn at_text(token: &Token, text: &[u8], stage: Stage, put: bool, written: Written) -> Option<State>
-    ensures { result ≡ spec.on (spec.is_text text.now token.now) (spec.at_stage (reading put written) stage) }
+/// The next state, where a test of the token holds.
+fn on(holds: bool, stage: Stage, put: bool, written: Written) -> Option<State>
+    ensures { result ≡ spec.on holds (spec.at_stage (reading put written) stage) }
 {
-    if is_text(token, text) {
+    if holds {
         Some(State {
             stage,
             put,
@@ -84,9 +89,16 @@ fn at_text(token: &Token, text: &[u8], stage: Stage, put: bool, written: Written
     }
 }
 
+/// The next state, where the token is this lexeme.
+fn at_text(token: &Token, text: &[u8], stage: Stage, put: bool, written: Written) -> Option<State>
+    ensures { result ≡ spec.on (spec.is_text text.now token.now) (spec.at_stage (reading put written) stage) }
+{
+    on(is_text(token, text), stage, put, written)
+}
+
 /// Behind `where`: an opening brace.
 fn at_open(written: Written, token: &Token) -> Option<State>
-    ensures { result ≡ spec.at_open (reading false written) (spec.opened token.now.sign token.now.text) }
+    ensures { result ≡ spec.at_open (reading false written) (spec.opened token.now.sign token.now.kind token.now.text) }
 {
     match opened(token) {
         Some(put) => Some(State {
@@ -98,68 +110,39 @@ fn at_open(written: Written, token: &Token) -> Option<State>
     }
 }
 
-/// Behind the opening brace: the closing brace or the first item.
-fn at_body(put: bool, written: Written, token: &Token) -> Option<State>
-    ensures { result ≡ spec.step_at [] (reading put written) stage.Body token.now }
-{
-    if is_closing(put, token) {
-        Some(State {
-            stage: Stage::End,
-            put,
-            written,
-        })
-    } else {
-        at_item(put, written, token)
-    }
-}
-
-/// Where an item may begin: `import` or `data`.
-fn at_item(put: bool, written: Written, token: &Token) -> Option<State>
-    ensures { result ≡ spec.at_item (reading put written) token.now }
+/// Where any part may begin: an import, a data type or nothing.
+fn at_part(put: bool, written: Written, token: &Token) -> Option<State>
+    ensures { result ≡ spec.at_part (reading put written) token.now }
 {
     if is_text(token, b"import") {
         Some(State {
-            stage: Stage::Import,
+            stage: Stage::Import(token.at),
             put,
             written,
         })
     } else {
-        at_data(put, written, token)
+        at_data(put, written, Stage::Body, token)
     }
 }
 
-/// Where a data type may begin: `data`.
-fn at_data(put: bool, written: Written, token: &Token) -> Option<State>
-    ensures { result ≡ spec.at_data (reading put written) token.now }
+/// Where a part may begin that is no import: a data type or nothing.
+fn at_data(put: bool, written: Written, next: Stage, token: &Token) -> Option<State>
+    ensures { result ≡ spec.at_data (reading put written) next token.now }
 {
-    at_text(token, b"data", Stage::DataType, put, written)
-}
-
-/// Behind `import`: the name of a module that may be imported.
-fn at_import(
-    alloc: Global,
-    name: &[u8],
-    put: bool,
-    mut written: Written,
-    token: &Token,
-) -> Result<Option<State>, NoMemory>
-    ensures { IfOk result (λ next. next ≡ spec.step_at name.now (reading put written) stage.Import token.now) }
-{
-    if !is_name(token) || !is_import(name, token.text.as_slice()) {
-        return Ok(None);
+    if is_text(token, b"data") {
+        Some(State {
+            stage: Stage::DataType,
+            put,
+            written,
+        })
+    } else {
+        behind_part(put, written, next, token)
     }
-    let word = word_of(alloc, token)?;
-    written.imports.push(word)?;
-    Ok(Some(State {
-        stage: Stage::Imported,
-        put,
-        written,
-    }))
 }
 
-/// Behind a whole item that was kept: a semicolon, or the closing brace.
-fn behind_item(put: bool, written: Written, next: Stage, token: &Token) -> Option<State>
-    ensures { result ≡ spec.behind_item (reading put written) next token.now }
+/// Behind a whole part: a semicolon, or the closing brace.
+fn behind_part(put: bool, written: Written, next: Stage, token: &Token) -> Option<State>
+    ensures { result ≡ spec.behind_part (reading put written) next token.now }
 {
     if is_next(token) {
         Some(State {
@@ -167,14 +150,8 @@ fn behind_item(put: bool, written: Written, next: Stage, token: &Token) -> Optio
             put,
             written,
         })
-    } else if is_closing(put, token) {
-        Some(State {
-            stage: Stage::End,
-            put,
-            written,
-        })
     } else {
-        None
+        on(is_closing(put, token), Stage::End, put, written)
     }
 }
 
@@ -185,7 +162,7 @@ fn at_type(
     written: Written,
     token: &Token,
 ) -> Result<Option<State>, NoMemory>
-    ensures { IfOk result (λ next. next ≡ spec.step_at [] (reading put written) stage.DataType token.now) }
+    ensures { IfOk result (λ next. next ≡ spec.step_at (reading put written) stage.DataType token.now) }
 {
     if !is_name(token) {
         return Ok(None);
@@ -206,7 +183,7 @@ fn at_con(
     ty: Word,
     token: &Token,
 ) -> Result<Option<State>, NoMemory>
-    ensures { IfOk result (λ next. next ≡ spec.step_at [] (reading put written) (stage.DataCon ty) token.now) }
+    ensures { IfOk result (λ next. next ≡ spec.step_at (reading put written) (stage.DataCon ty) token.now) }
 {
     if !is_name(token) {
         return Ok(None);
@@ -228,14 +205,15 @@ fn at_con(
 fn at_field(
     alloc: Global,
     put: bool,
-    written: Written,
+    mut written: Written,
     mut item: DataItem,
     token: &Token,
 ) -> Result<Option<State>, NoMemory>
-    ensures { IfOk result (λ next. next ≡ spec.step_at [] (reading put written) (stage.Fields item) token.now) }
+    ensures { IfOk result (λ next. next ≡ spec.step_at (reading put written) (stage.Fields item) token.now) }
 {
     if !is_name(token) {
-        return behind_data(put, written, item, token);
+        written.datas.push(item)?;
+        return Ok(behind_part(put, written, Stage::Datas, token));
     }
     let field = word_of(alloc, token)?;
     item.fields.push(field)?;
@@ -244,17 +222,4 @@ fn at_field(
         put,
         written,
     }))
-}
-
-/// Behind a whole data type: a semicolon, or the closing brace.
-fn behind_data(
-    put: bool,
-    mut written: Written,
-    item: DataItem,
-    token: &Token,
-) -> Result<Option<State>, NoMemory>
-    ensures { IfOk result (λ next. next ≡ spec.behind_data (reading put written) item token.now) }
-{
-    written.datas.push(item)?;
-    Ok(behind_item(put, written, Stage::NextData, token))
 }

@@ -4,16 +4,44 @@ ghost use Rattle.plain_form.specs.Form as spec;
 
 use crate::form::Word;
 use crate::word::is_con;
-use hs_syntax::token::{PutSign, Token};
+use hs_syntax::token::{PutSign, Token, TokenKind};
 use mk_base::memory::NoMemory;
 use std::alloc::Global;
+
+/// Whether a token is a pragma.
+pub fn is_pragma(kind: TokenKind) -> bool
+    ensures { result ≡ spec.is_pragma kind }
+{
+    match kind {
+        TokenKind::Pragma => true,
+        _ => false,
+    }
+}
+
+/// Whether a lexeme of this kind is the name of a module.
+fn is_module_kind(kind: TokenKind) -> bool
+    ensures { result ≡ spec.is_module_kind kind }
+{
+    match kind {
+        TokenKind::ConId => true,
+        TokenKind::QConId => true,
+        _ => false,
+    }
+}
+
+/// Whether a written lexeme has this text and isn't the name of a module.
+fn is_written(text: &[u8], kind: TokenKind, written: &[u8]) -> bool
+    ensures { result ≡ spec.is_written text.now kind written.now }
+{
+    !is_module_kind(kind) && written == text
+}
 
 /// Whether a token is this lexeme.
 pub fn is_text(token: &Token, text: &[u8]) -> bool
     ensures { result ≡ spec.is_text text.now token.now }
 {
     match token.sign {
-        None => token.text.as_slice() == text,
+        None => is_written(text, token.kind, token.text.as_slice()),
         Some(_) => false,
     }
 }
@@ -28,16 +56,33 @@ pub fn is_name(token: &Token) -> bool
     }
 }
 
+/// Whether a token is the name of a module.
+pub fn is_module(token: &Token) -> bool
+    ensures { result ≡ spec.is_module token.now }
+{
+    match token.sign {
+        None => is_module_kind(token.kind),
+        Some(_) => false,
+    }
+}
+
+/// Whether a token is the name of a module that may be imported: any but `Prim`.
+pub fn is_import(token: &Token) -> bool
+    ensures { result ≡ spec.is_import token.now }
+{
+    is_module(token) && token.text.as_slice() != b"Prim".as_slice()
+}
+
 /// Whether layout put a token that is an opening brace; None where the token is none.
 pub fn opened(token: &Token) -> Option<bool>
-    ensures { result ≡ spec.opened token.now.sign token.now.text }
+    ensures { result ≡ spec.opened token.now.sign token.now.kind token.now.text }
 {
     match token.sign {
         Some(PutSign::Open) => Some(true),
         Some(PutSign::Semicolon) => None,
         Some(PutSign::Close) => None,
         None => {
-            if token.text.as_slice() == b"{".as_slice() {
+            if is_written(b"{", token.kind, token.text.as_slice()) {
                 Some(false)
             } else {
                 None
@@ -48,33 +93,26 @@ pub fn opened(token: &Token) -> Option<bool>
 
 /// Whether a token closes a brace that layout put, or one that was written.
 pub fn is_closing(put: bool, token: &Token) -> bool
-    ensures { result ≡ spec.is_closing put token.now.sign token.now.text }
+    ensures { result ≡ spec.is_closing put token.now.sign token.now.kind token.now.text }
 {
     match token.sign {
         Some(PutSign::Open) => false,
         Some(PutSign::Semicolon) => false,
         Some(PutSign::Close) => put,
-        None => !put && token.text.as_slice() == b"}".as_slice(),
+        None => !put && is_written(b"}", token.kind, token.text.as_slice()),
     }
 }
 
 /// Whether a token is a semicolon.
 pub fn is_next(token: &Token) -> bool
-    ensures { result ≡ spec.is_next token.now.sign token.now.text }
+    ensures { result ≡ spec.is_next token.now }
 {
     match token.sign {
         Some(PutSign::Open) => false,
         Some(PutSign::Semicolon) => true,
         Some(PutSign::Close) => false,
-        None => token.text.as_slice() == b";".as_slice(),
+        None => is_written(b";", token.kind, token.text.as_slice()),
     }
-}
-
-/// Whether module `name` may import module `imported`: a lesser one other than Prim.
-pub fn is_import(name: &[u8], imported: &[u8]) -> bool
-    ensures { result ≡ spec.is_import name.now imported.now }
-{
-    imported != b"Prim".as_slice() && imported.cmp(name).is_lt()
 }
 
 /// A token as a word.

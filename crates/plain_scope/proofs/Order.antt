@@ -78,6 +78,4 @@ among_datas pairs before (d ∷ ds) =
 
 -- the diagnostics of a module stand at its names, so where these rise they do
 pub are_ordered : (pairs : List Pair) (w : Written) → AreRising (places (words w)) → AreOrdered (datas_diags pairs [] w.datas)
-are_ordered pairs w h =
-    let of_datas : List Word = flat_map (λ (d : DataItem). d.ty ∷ d.con ∷ d.fields) w.datas in
-    among_rising (datas_diags pairs [] w.datas) (words w) (among_behind (datas_diags pairs [] w.datas) w.imports of_datas (among_datas pairs [] w.datas)) h
+are_ordered pairs w h = among_rising (datas_diags pairs [] w.datas) (words w) (among_datas pairs [] w.datas) h

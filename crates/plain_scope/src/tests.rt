@@ -149,9 +149,8 @@ fn report(alloc: Global, datas: &[u8], digits: &[u8]) -> Result<List<u8>, NoMemo
     let contents = contents(alloc)?;
     let contents = contents.as_slice();
     let places = places_of(alloc, digits, contents.len())?;
-    let imports = List::new(alloc);
     let datas = datas_of(alloc, datas)?;
-    let written = Written { imports, datas };
+    let written = Written { datas };
     let mut out = List::new(alloc);
     match check(alloc, b"main", b"M", &written, contents, places.as_slice())? {
         Checked::Wrong(diags) => print_diags(&mut out, diags.as_slice())?,
