@@ -6,7 +6,7 @@ use Rattle.std.specs.Cmp.Lexicographic.{nat_list_eq_equiv}
 use Rattle.indexmap.specs.IndexSet.{insert_key}
 use Rattle.mk_io.specs.declared.file.File.{File}
 use Rattle.plain_form.specs.Words.{same_text}
-use Rattle.plain_build.specs.Result.{AreDistinct, AreSmall}
+use Rattle.plain_build.specs.Result.{AreDistinct, AreShort}
 use Rattle.hsmake_top.specs.Session.{put_file}
 use Rattle.hsmake_top.specs.Kept.{names_of}
 
@@ -90,13 +90,13 @@ module _ (path body : List ℕ) where
       (λ y. subst P (sym y) (subst (λ n. AllByRecursion (λ (g : File). n ≡ g.name → ⊥) fs) (sym (exact path f.name y)) p.0, p.1))
       (λ n. subst P (sym n) (apart_put f fs (λ e. true≢false (sym (same_self path) ∙ ap (same_text path) (sym e) ∙ n)) p.0, put_distinct fs p.1))
 
-  pub put_small : (fs : List File) → length path ≤ 1048576 → length body ≤ 1048576 → AreSmall fs → AreSmall (put_file path body fs)
-  put_small [] a b p = ((a, b), tt)
-  put_small (f ∷ fs) a b p =
-      let P : Bool → Type 0 = λ c. AreSmall (cond c (file path body ∷ fs) (f ∷ put_file path body fs)) in
+  pub put_short : (fs : List File) → length path ≤ 1048576 → AreShort fs → AreShort (put_file path body fs)
+  put_short [] a p = (a, tt)
+  put_short (f ∷ fs) a p =
+      let P : Bool → Type 0 = λ c. AreShort (cond c (file path body ∷ fs) (f ∷ put_file path body fs)) in
       by_test (same_text path f.name) (P (same_text path f.name))
-      (λ y. subst P (sym y) ((a, b), p.1))
-      (λ y. subst P (sym y) (p.0, put_small fs a b p.1))
+      (λ y. subst P (sym y) (a, p.1))
+      (λ y. subst P (sym y) (p.0, put_short fs a p.1))
 
   -- there is at most one file more
   pub put_length : (fs : List File) → length (put_file path body fs) ≤ length fs + 1
@@ -130,9 +130,9 @@ module _ (path body value : List ℕ) (keys : List (List ℕ)) (fs gs : List Fil
 
 -- what is kept of the files once one is put
 pub put_kept : (path body value : List ℕ) (keys new_keys : List (List ℕ)) (fs gs : List File) → value ≡ path → keys ≡ names_of fs → new_keys ≡ insert_key same_text keys value → gs ≡ put_file path body fs
-    → length path ≤ 1048576 → length body ≤ 1048576 → AreDistinct fs → AreSmall fs → (new_keys ≡ names_of gs) × AreDistinct gs × AreSmall gs
-put_kept path body value keys new_keys fs gs v k n e a b d s = (
+    → length path ≤ 1048576 → AreDistinct fs → AreShort fs → (new_keys ≡ names_of gs) × AreDistinct gs × AreShort gs
+put_kept path body value keys new_keys fs gs v k n e a d s = (
   n ∙ ap (λ x. insert_key same_text keys x) v ∙ ap (λ ks. insert_key same_text ks path) k ∙ sym (put_names path body fs) ∙ ap names_of (sym e),
   subst AreDistinct (sym e) (put_distinct path body fs d),
-  subst AreSmall (sym e) (put_small path body fs a b s),
+  subst AreShort (sym e) (put_short path body fs a s),
 )

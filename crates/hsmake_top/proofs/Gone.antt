@@ -4,7 +4,7 @@ use Rattle.std.specs.List.{AllByRecursion, list_any, position_or_len, remove}
 use Rattle.std.specs.Set.{remove_key}
 use Rattle.mk_io.specs.declared.file.File.{File}
 use Rattle.plain_form.specs.Words.{same_text}
-use Rattle.plain_build.specs.Result.{AreDistinct, AreSmall}
+use Rattle.plain_build.specs.Result.{AreDistinct, AreShort}
 use Rattle.hsmake_top.specs.Session.{without_file}
 use Rattle.hsmake_top.specs.Kept.{names_of}
 use Rattle.hsmake_top.proofs.Files.{by_test, exact}
@@ -77,11 +77,11 @@ module _ (path : List ℕ) where
 
 -- what is kept of the files once one is taken away
 pub gone_kept : (path value : List ℕ) (keys new_keys : List (List ℕ)) (fs gs : List File) → value ≡ path → keys ≡ names_of fs → new_keys ≡ remove_key (same_text value) keys → gs ≡ without_file path fs
-    → AreDistinct fs → AreSmall fs → (new_keys ≡ names_of gs) × AreDistinct gs × AreSmall gs
+    → AreDistinct fs → AreShort fs → (new_keys ≡ names_of gs) × AreDistinct gs × AreShort gs
 gone_kept path value keys new_keys fs gs v k n e d s = (
   n ∙ ap (λ x. remove_key (same_text x) keys) v ∙ ap (λ ks. remove_key (same_text path) ks) k ∙ taken_names path fs d ∙ ap names_of (sym e),
   subst AreDistinct (sym e) (distinct_without path fs d),
-  subst AreSmall (sym e) (all_without path (λ (f : File). (length f.name ≤ 1048576) × (length f.bytes ≤ 1048576)) fs s),
+  subst AreShort (sym e) (all_without path (λ (f : File). length f.name ≤ 1048576) fs s),
 )
 
 -- the place at which a key was found

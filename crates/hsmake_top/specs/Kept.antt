@@ -1,7 +1,7 @@
 -- What a session keeps between commands.
 use Rattle.std.specs.Prelude.{◌≡◌, ℕ, List, [], map, codes}
 use Rattle.mk_io.specs.declared.file.File.{File}
-use Rattle.plain_build.specs.Result.{AreDistinct, AreSmall}
+use Rattle.plain_build.specs.Result.{AreDistinct, AreShort}
 use Rattle.hsmake_top.specs.declared.session.Session.{Session}
 use Rattle.hsmake_top.specs.Session.{State}
 
@@ -17,4 +17,4 @@ pub record IsKept (s : Session) : Type 0 where
   pub store : s.input.store ≡ []
   pub names : s.places.keys ≡ names_of s.input.files
   pub distinct : AreDistinct s.input.files
-  pub small : AreSmall s.input.files
+  pub short : AreShort s.input.files

@@ -118,7 +118,6 @@ impl Session {
     fn put(&mut self, alloc: Global, path: &[u8], body: &[u8]) -> Result<(), NoMemory>
         requires kept { IsKept self.old }
         requires path { length path.now ≤ 1048576 }
-        requires body { length body.now ≤ 1048576 }
         ensures kept { OnOk result (IsKept self.new) }
         ensures files { OnOk result (self.new.input.files ≡ put_file path.now body.now self.old.input.files) }
         ensures prelude { OnOk result (self.new.input.prelude ≡ self.old.input.prelude) }

@@ -9,20 +9,20 @@ use std::thread::Threads;
 
 // A line is a tree and the report of its build, with a bar between. The files of a tree stand with a semicolon between
 // them, each as its path, a colon and its text. A tilde ends a line of a text or a report; the last one of a text is
-// left out. A caret is a semicolon of a text. E00 comes at the first lexeme with which a source leaves the form, E10 at
-// an import that isn't there.
+// left out. A caret is a semicolon of a text. E00 comes at the first part of a source that isn't of the form, E10 at an
+// import that isn't there.
 const FORMS_AND_IMPORTS: &str = "
 A.hs:module A where|A: checked: no interface~build: 1 ok, 1 checked, 0 failed, 0 blocked~
 B.hs:module B where~import A~data U = D T|B: failed~B.hs:2:8: error E10: module A not found~build: 0 ok, 0 checked, 1 failed, 0 blocked~
 A.hs:module A where~x = 1|A: checked: no interface~A.hs:2:1: error E00: this form is not built yet~build: 0 ok, 1 checked, 1 failed, 0 blocked~
 C.hs:module C where~import A~import B|C: failed~C.hs:2:8: error E10: module A not found~C.hs:3:8: error E10: module B not found~build: 0 ok, 0 checked, 1 failed, 0 blocked~
 C.hs:module C where~import B~import A~import B~data T = D X|C: failed~C.hs:2:8: error E10: module B not found~C.hs:3:8: error E10: module A not found~C.hs:4:8: error E10: module B not found~build: 0 ok, 0 checked, 1 failed, 0 blocked~
-A.hs:module A where~import A|A: checked: no interface~A.hs:2:8: error E00: this form is not built yet~build: 0 ok, 1 checked, 1 failed, 0 blocked~
-A.hs:module A where~import B;B.hs:module B where|A: checked: no interface~A.hs:2:8: error E00: this form is not built yet~B: checked: no interface~build: 1 ok, 2 checked, 1 failed, 0 blocked~
-Q.hs:module Q where~import Prim|Q: checked: no interface~Q.hs:2:8: error E00: this form is not built yet~build: 0 ok, 1 checked, 1 failed, 0 blocked~
-A.hs:module B where~import C|A: checked: no interface~A.hs:1:8: error E00: this form is not built yet~build: 0 ok, 1 checked, 1 failed, 0 blocked~
-A.hs:|A: checked: no interface~A.hs:1:1: error E00: this form is not built yet~build: 0 ok, 1 checked, 1 failed, 0 blocked~
-A/B.hs:module A.B where|A.B: checked: no interface~A/B.hs:1:1: error E00: this form is not built yet~build: 0 ok, 1 checked, 1 failed, 0 blocked~
+A.hs:module A where~import A|A: failed~A.hs:2:8: error E11: import cycle through A~build: 0 ok, 0 checked, 1 failed, 0 blocked~
+A.hs:module A where~import B;B.hs:module B where|B: checked: no interface~A: checked: no interface~build: 2 ok, 2 checked, 0 failed, 0 blocked~
+Q.hs:module Q where~import Prim|Q: checked: no interface~Q.hs:2:1: error E00: this form is not built yet~build: 0 ok, 1 checked, 1 failed, 0 blocked~
+A.hs:module B where~import C|A: failed~A.hs:1:8: error E13: header names B~A.hs:2:8: error E10: module C not found~build: 0 ok, 0 checked, 1 failed, 0 blocked~
+A.hs:|A: failed~A.hs:1:1: error E13: header names Main~build: 0 ok, 0 checked, 1 failed, 0 blocked~
+A/B.hs:module A.B where|A.B: checked: no interface~build: 1 ok, 1 checked, 0 failed, 0 blocked~
 M.hs-boot:module M where;N.hs:module N where~import M|M[boot]: checked: no interface~M.hs-boot:1:1: error E00: this form is not built yet~N: failed~N.hs:2:8: error E10: module M not found~build: 0 ok, 1 checked, 2 failed, 0 blocked~
 M.hs:module M where;M.hs-boot:module M where;N.hs:module N where~import M|M[boot]: checked: no interface~M.hs-boot:1:1: error E00: this form is not built yet~M: blocked by M[boot]~N: blocked by M[boot]~build: 0 ok, 1 checked, 1 failed, 2 blocked~
 a.hs:module a where;A.hsi:x;Prim.hs:module Prim where;A-B.hs:y|build: 0 ok, 0 checked, 0 failed, 0 blocked~
@@ -31,7 +31,8 @@ A.hs:module A where~data T =  C|A: checked: no interface~build: 1 ok, 1 checked,
 B.hs:module B where~data T = C~import A|B: checked: no interface~B.hs:3:1: error E00: this form is not built yet~build: 0 ok, 1 checked, 1 failed, 0 blocked~
 A.hs:module A where~data T = C~data U|A: checked: no interface~A.hs:3:6: error E00: this form is not built yet~build: 0 ok, 1 checked, 1 failed, 0 blocked~
 A.hs:module A where~data T = C a|A: checked: no interface~A.hs:2:12: error E00: this form is not built yet~build: 0 ok, 1 checked, 1 failed, 0 blocked~
-B.hs:module B where~import A~oh no;C.hs:module C where~import B|B: checked: no interface~B.hs:3:1: error E00: this form is not built yet~C: blocked by B~build: 0 ok, 1 checked, 1 failed, 1 blocked~
+A.hs:module A where;B.hs:module B where~import A~oh no;C.hs:module C where~import B|A: checked: no interface~B: checked: no interface~B.hs:3:1: error E00: this form is not built yet~C: blocked by B~build: 1 ok, 2 checked, 1 failed, 1 blocked~
+B.hs:module B where~import A~oh no;C.hs:module C where~import B|B: failed~B.hs:2:8: error E10: module A not found~C: blocked by B~build: 0 ok, 0 checked, 1 failed, 1 blocked~
 ";
 
 // The same with E21 for what isn't in scope, E22 for what is ambiguous and E23 for what is defined twice.
@@ -71,31 +72,60 @@ A.hs:module A where\r~data T = C\r~data U = D X\r|A: checked: no interface~A.hs:
 A.hs:module A where~~data T =  C~~|A: checked: no interface~build: 1 ok, 1 checked, 0 failed, 0 blocked~
 A.hs:module~  A~ where~   data~     T = C|A: checked: no interface~build: 1 ok, 1 checked, 0 failed, 0 blocked~
 A.hs:module A where~  data T = C~ data U = D|A: checked: no interface~A.hs:3:2: error E00: this form is not built yet~build: 0 ok, 1 checked, 1 failed, 0 blocked~
-A.hs:module A where { data T = C^ }|A: checked: no interface~A.hs:1:30: error E00: this form is not built yet~build: 0 ok, 1 checked, 1 failed, 0 blocked~
-A.hs:module A where~data T = C^|A: checked: no interface~A.hs:2:11: error E00: this form is not built yet~build: 0 ok, 1 checked, 1 failed, 0 blocked~
+A.hs:module A where { data T = C^ }|A: checked: no interface~build: 1 ok, 1 checked, 0 failed, 0 blocked~
+A.hs:module A where~data T = C^|A: checked: no interface~build: 1 ok, 1 checked, 0 failed, 0 blocked~
 A.hs:module A where {|A: checked: no interface~A.hs:1:16: error E00: this form is not built yet~build: 0 ok, 1 checked, 1 failed, 0 blocked~
 B.hs:module B where~  import~    A~  import {- a -} A|B: failed~B.hs:3:5: error E10: module A not found~B.hs:4:18: error E10: module A not found~build: 0 ok, 0 checked, 1 failed, 0 blocked~
 A.hs:module A where { data T = C^data T = C }|A: checked: no interface~A.hs:1:34: error E23: T is defined twice~A.hs:1:38: error E23: C is defined twice~build: 0 ok, 1 checked, 1 failed, 0 blocked~
-A.hs:module A where;B.hs:module B where~import qualified A|A: checked: no interface~B: checked: no interface~B.hs:2:8: error E00: this form is not built yet~build: 1 ok, 2 checked, 1 failed, 0 blocked~
+A.hs:module A where;B.hs:module B where~import qualified A|A: checked: no interface~B: checked: no interface~B.hs:2:1: error E00: this form is not built yet~build: 1 ok, 2 checked, 1 failed, 0 blocked~
 A.hs:module A (T) where~data T = C|A: checked: no interface~A.hs:1:10: error E00: this form is not built yet~build: 0 ok, 1 checked, 1 failed, 0 blocked~
-A.hs:-- nothing~{- at all -}|A: checked: no interface~A.hs:1:1: error E00: this form is not built yet~build: 0 ok, 1 checked, 1 failed, 0 blocked~
-A.hs:  {-# LANGUAGE X #-}~module A where|A: checked: no interface~A.hs:1:3: error E00: this form is not built yet~build: 0 ok, 1 checked, 1 failed, 0 blocked~
+A.hs:-- nothing~{- at all -}|A: failed~A.hs:1:1: error E13: header names Main~build: 0 ok, 0 checked, 1 failed, 0 blocked~
+A.hs:  {-# LANGUAGE X #-}~module A where|A: failed~A.hs:1:16: error E05: unknown extension X~build: 0 ok, 0 checked, 1 failed, 0 blocked~
 B.hs:module B where~data T = C^import A|B: checked: no interface~B.hs:2:12: error E00: this form is not built yet~build: 0 ok, 1 checked, 1 failed, 0 blocked~
+";
+
+// Headers and graphs: cycles, loops through boot files, names and pragmas of headers, and what has E00 in a header.
+const HEADERS: &str = "
+A.hs:module A where~import B;B.hs:module B where~import A;C.hs:module C where~import A|A: failed~A.hs:2:8: error E11: import cycle through B~B: failed~B.hs:2:8: error E11: import cycle through A~C: blocked by A~build: 0 ok, 0 checked, 2 failed, 1 blocked~
+A.hs:module A where~import B~import C;B.hs:module B where;C.hs:module C where~import A|B: checked: no interface~A: failed~A.hs:3:8: error E11: import cycle through C~C: failed~C.hs:2:8: error E11: import cycle through A~build: 1 ok, 1 checked, 2 failed, 0 blocked~
+B.hs:module B where~import C;C.hs:module C where~data T = K;A.hs:module A where~import B~import C~data U = D T|C: checked: no interface~B: checked: no interface~A: checked: no interface~build: 3 ok, 3 checked, 0 failed, 0 blocked~
+Z.hs:module Z where~data T = C;A/B.hs:module A.B where~import Z~data U = D T;A.hs:module A where~import A.B~data V = E U|Z: checked: no interface~A.B: checked: no interface~A: checked: no interface~build: 3 ok, 3 checked, 0 failed, 0 blocked~
+A.hs:module A where~import {-# SOURCE #-} B;B.hs:module B where|A: failed~A.hs:2:23: error E12: module B has no boot file~B: checked: no interface~build: 1 ok, 1 checked, 1 failed, 0 blocked~
+M.hs:module M where~import N;M.hs-boot:module M where;N.hs:module N where~import {-# SOURCE #-} M|M[boot]: checked: no interface~M.hs-boot:1:1: error E00: this form is not built yet~N: blocked by M[boot]~M: blocked by M[boot]~build: 0 ok, 1 checked, 1 failed, 2 blocked~
+M.hs:module M where~import {-# SOURCE #-} M;M.hs-boot:x|M[boot]: checked: no interface~M.hs-boot:1:1: error E00: this form is not built yet~M: failed~M.hs:2:23: error E11: import cycle through M~build: 0 ok, 1 checked, 2 failed, 0 blocked~
+A.hs:module A where~import {-# SOURCE #-} Prim|A: failed~A.hs:2:23: error E12: module Prim has no boot file~build: 0 ok, 0 checked, 1 failed, 0 blocked~
+A.hs:{-# LANGUAGE ImplicitPrelude #-}~module A where|A: failed~A.hs:1:1: error E10: module Prelude not found~build: 0 ok, 0 checked, 1 failed, 0 blocked~
+Prelude.hs:module Prelude where~data T = C;A.hs:{-# LANGUAGE ImplicitPrelude #-}~module A where~data U = D T|Prelude: checked: no interface~A: checked: no interface~build: 2 ok, 2 checked, 0 failed, 0 blocked~
+Prelude.hs:{-# LANGUAGE ImplicitPrelude #-} module Prelude where|Prelude: failed~Prelude.hs:1:1: error E11: import cycle through Prelude~build: 0 ok, 0 checked, 1 failed, 0 blocked~
+Prelude.hs:module Prelude where~data T = C;A.hs:{-# LANGUAGE ImplicitPrelude #-}~module A where~import Prelude ()~data U = D T|Prelude: checked: no interface~A: checked: no interface~A.hs:3:1: error E00: this form is not built yet~build: 1 ok, 2 checked, 1 failed, 0 blocked~
+A.hs:{-# LANGUAGE Haskell2010, NoMonomorphismRestriction #-}~module A where~data T = C|A: checked: no interface~build: 1 ok, 1 checked, 0 failed, 0 blocked~
+A.hs:{-# LANGUAGE GADTs #-}~module A where~import B|A: failed~A.hs:1:14: error E05: unknown extension GADTs~build: 0 ok, 0 checked, 1 failed, 0 blocked~
+A.hs:module A wher|A: failed~A.hs:1:10: error E03: this is no module header~build: 0 ok, 0 checked, 1 failed, 0 blocked~
+A.hs:module A where~import B C|A: failed~A.hs:2:10: error E03: this is no module header~build: 0 ok, 0 checked, 1 failed, 0 blocked~
+A.hs:module|A: failed~A.hs:1:1: error E03: this is no module header~build: 0 ok, 0 checked, 1 failed, 0 blocked~
+A.hs:module A where;B.hs:module B where~import A as C|A: checked: no interface~B: checked: no interface~B.hs:2:1: error E00: this form is not built yet~build: 1 ok, 2 checked, 1 failed, 0 blocked~
+A.hs:module A where;B.hs:module B where~import A hiding (x)|A: checked: no interface~B: checked: no interface~B.hs:2:1: error E00: this form is not built yet~build: 1 ok, 2 checked, 1 failed, 0 blocked~
+A.hs:module A where;B.hs:module B where~import A~import A ()|A: checked: no interface~B: checked: no interface~B.hs:3:1: error E00: this form is not built yet~build: 1 ok, 2 checked, 1 failed, 0 blocked~
+Main.hs:x = 1|Main: checked: no interface~Main.hs:1:1: error E00: this form is not built yet~build: 0 ok, 1 checked, 1 failed, 0 blocked~
+Main.hs:import A|Main: failed~Main.hs:1:8: error E10: module A not found~build: 0 ok, 0 checked, 1 failed, 0 blocked~
+Main.hs:|Main: checked: no interface~Main.hs:1:1: error E00: this form is not built yet~build: 0 ok, 1 checked, 1 failed, 0 blocked~
+A.hs:module A where~^^import B^^;B.hs:module B where {^}|B: checked: no interface~A: checked: no interface~build: 2 ok, 2 checked, 0 failed, 0 blocked~
+A.hs:module C where~import B;B.hs:module B where~import A|A: failed~A.hs:1:8: error E13: header names C~A.hs:2:8: error E11: import cycle through B~B: failed~B.hs:2:8: error E11: import cycle through A~build: 0 ok, 0 checked, 2 failed, 0 blocked~
 ";
 
 // E01 comes at the first place at which no lexeme begins, alone, also beside what would leave the form or isn't there.
 const BAD_LEXEMES: &str = "
 A.hs:module A where~data T = C \x00|A: checked: no interface~A.hs:2:12: error E01: no lexeme begins here~build: 0 ok, 1 checked, 1 failed, 0 blocked~
-A.hs:module A where~  {- x|A: checked: no interface~A.hs:2:3: error E01: no lexeme begins here~build: 0 ok, 1 checked, 1 failed, 0 blocked~
-A.hs:{- {- -} x|A: checked: no interface~A.hs:1:1: error E01: no lexeme begins here~build: 0 ok, 1 checked, 1 failed, 0 blocked~
+A.hs:module A where~  {- x|A: failed~A.hs:2:3: error E01: no lexeme begins here~build: 0 ok, 0 checked, 1 failed, 0 blocked~
+A.hs:{- {- -} x|A: failed~A.hs:1:1: error E01: no lexeme begins here~build: 0 ok, 0 checked, 1 failed, 0 blocked~
 A.hs:module A where~x = \"b|A: checked: no interface~A.hs:2:5: error E01: no lexeme begins here~build: 0 ok, 1 checked, 1 failed, 0 blocked~
-A.hs:\x00 \"|A: checked: no interface~A.hs:1:1: error E01: no lexeme begins here~build: 0 ok, 1 checked, 1 failed, 0 blocked~
+A.hs:\x00 \"|A: failed~A.hs:1:1: error E01: no lexeme begins here~build: 0 ok, 0 checked, 1 failed, 0 blocked~
 A.hs:module A where~data T = C X -- \x00|A: checked: no interface~A.hs:2:14: error E01: no lexeme begins here~build: 0 ok, 1 checked, 1 failed, 0 blocked~
-B.hs:module B where~import A~\x00|B: checked: no interface~B.hs:3:1: error E01: no lexeme begins here~build: 0 ok, 1 checked, 1 failed, 0 blocked~
-A/B.hs:\x00|A.B: checked: no interface~A/B.hs:1:1: error E01: no lexeme begins here~build: 0 ok, 1 checked, 1 failed, 0 blocked~
+B.hs:module B where~import A~\x00|B: failed~B.hs:3:1: error E01: no lexeme begins here~build: 0 ok, 0 checked, 1 failed, 0 blocked~
+A/B.hs:\x00|A.B: failed~A/B.hs:1:1: error E01: no lexeme begins here~build: 0 ok, 0 checked, 1 failed, 0 blocked~
 M.hs-boot:module M where~\x00|M[boot]: checked: no interface~M.hs-boot:2:1: error E01: no lexeme begins here~build: 0 ok, 1 checked, 1 failed, 0 blocked~
 M.hs:module M where;M.hs-boot:'x|M[boot]: checked: no interface~M.hs-boot:1:1: error E01: no lexeme begins here~M: blocked by M[boot]~build: 0 ok, 1 checked, 1 failed, 1 blocked~
-A.hs:'x;B.hs:module B where~import A|A: checked: no interface~A.hs:1:1: error E01: no lexeme begins here~B: blocked by A~build: 0 ok, 1 checked, 1 failed, 1 blocked~
+A.hs:'x;B.hs:module B where~import A|A: failed~A.hs:1:1: error E01: no lexeme begins here~B: blocked by A~build: 0 ok, 0 checked, 1 failed, 1 blocked~
 A.hs:module A where;B.hs:module B where~import A~data T = \"|A: checked: no interface~B: checked: no interface~B.hs:3:10: error E01: no lexeme begins here~build: 1 ok, 2 checked, 1 failed, 0 blocked~
 ";
 
@@ -103,15 +133,15 @@ A.hs:module A where;B.hs:module B where~import A~data T = \"|A: checked: no inte
 const COMMANDS: &str = "
 F|flags NoImplicitPrelude~put A.hs 15~module A where~~put B.hs 24~module B where~import A~~del A.hs~build 1~quit~|B: failed~B.hs:2:8: error E10: module A not found~build: 0 ok, 0 checked, 1 failed, 0 blocked~
 D|del A.hs~quit~|del: no file A.hs~
-F|flags NoImplicitPrelude~del x~put A.hs 5~x = 1~build 1~quit~|del: no file x~A: checked: no interface~A.hs:1:1: error E00: this form is not built yet~build: 0 ok, 1 checked, 1 failed, 0 blocked~
+F|flags NoImplicitPrelude~del x~put A.hs 5~x = 1~build 1~quit~|del: no file x~A: failed~A.hs:1:1: error E13: header names Main~build: 0 ok, 0 checked, 1 failed, 0 blocked~
 D|flags NoImplicitPrelude~put A.hs 1~x~del A.hs~del A.hs~put A.hs 15~module A where~~build 1~quit~|del: no file A.hs~A: checked: no interface~build: 1 ok, 1 checked, 0 failed, 0 blocked~
 D|flags NoImplicitPrelude~put C.hs 1~x~put B.hs 1~x~put A.hs 1~x~del B.hs~put C.hs 15~module C where~~del A.hs~build 1~quit~|C: checked: no interface~build: 1 ok, 1 checked, 0 failed, 0 blocked~
 D|flags NoImplicitPrelude~put A.hs 15~module A where~~build 1~del A.hs~build 1~quit~|A: checked: no interface~build: 1 ok, 1 checked, 0 failed, 0 blocked~build: 0 ok, 0 checked, 0 failed, 0 blocked~
 D|put A.hs 1~x~del A.h~quit~|del: no file A.h~
 B|put A.hs 1~x~del A.hs~del A.hs~del ~quit~|del: no file A.hs~bad script at byte 31~
-F|flags NoImplicitPrelude~flags~put A.hs 15~module A where~~build 1~quit~|A: checked: no interface~A.hs:1:1: error E00: this form is not built yet~build: 0 ok, 1 checked, 1 failed, 0 blocked~
-F|flags NoImplicitPrelude~flags Haskell2010~put A.hs 15~module A where~~build 1~quit~|A: checked: no interface~A.hs:1:1: error E00: this form is not built yet~build: 0 ok, 1 checked, 1 failed, 0 blocked~
-F|flags NoImplicitPrelude ImplicitPrelude~put A.hs 15~module A where~~build 1~quit~|A: checked: no interface~A.hs:1:1: error E00: this form is not built yet~build: 0 ok, 1 checked, 1 failed, 0 blocked~
+F|flags NoImplicitPrelude~flags~put A.hs 15~module A where~~build 1~quit~|A: failed~A.hs:1:1: error E10: module Prelude not found~build: 0 ok, 0 checked, 1 failed, 0 blocked~
+F|flags NoImplicitPrelude~flags Haskell2010~put A.hs 15~module A where~~build 1~quit~|A: failed~A.hs:1:1: error E10: module Prelude not found~build: 0 ok, 0 checked, 1 failed, 0 blocked~
+F|flags NoImplicitPrelude ImplicitPrelude~put A.hs 15~module A where~~build 1~quit~|A: failed~A.hs:1:1: error E10: module Prelude not found~build: 0 ok, 0 checked, 1 failed, 0 blocked~
 D|flags ImplicitPrelude NoImplicitPrelude~put A.hs 15~module A where~~build 1~quit~|A: checked: no interface~build: 1 ok, 1 checked, 0 failed, 0 blocked~
 D|flags Haskell2010 NoImplicitPrelude NoMonomorphismRestriction~put A.hs 15~module A where~~build 1~quit~|A: checked: no interface~build: 1 ok, 1 checked, 0 failed, 0 blocked~
 B|flags NoImplicitPrelude Haskell98~quit~|bad script at byte 0~
@@ -240,6 +270,17 @@ fn scopes_are_reported(rt: HostRuntime) -> Result<(), Fail> {
 #[test]
 fn sources_are_laid_out(rt: HostRuntime) -> Result<(), Fail> {
     for row in LAID_OUT.as_bytes().split(|byte| *byte == b'\n') {
+        if !row.is_empty() {
+            let alike = is_answered(&rt, rt.alloc(), row)?;
+            assert!(rt; alike, "{row:?}");
+        }
+    }
+    Ok(())
+}
+
+#[test]
+fn headers_and_graphs_are_reported(rt: HostRuntime) -> Result<(), Fail> {
+    for row in HEADERS.as_bytes().split(|byte| *byte == b'\n') {
         if !row.is_empty() {
             let alike = is_answered(&rt, rt.alloc(), row)?;
             assert!(rt; alike, "{row:?}");

@@ -1,76 +1,27 @@
--- The exits of a node's build, for what was read.
-use Rattle.std.proofs.Common.{◌≡◌, Bool, true, false, refl, ℕ, ◌+◌, ◌<◌, List, [], ◌∷◌, ◌++◌, length, sym, ap, ◌∙◌, subst, Some, None, arith}
-use Rattle.std.specs.Prelude.{slice_get, unwrap_or, Result, Ok, Err, OnOk, IsTrue}
-use Rattle.std.specs.List.{AllByRecursion}
+-- What the exits of the build of a node are about.
+use Rattle.std.proofs.Common.{◌≡◌, ℕ, ◌+◌, ◌<◌, Bool, List, [], length, refl, ap, sym, ◌∙◌, Some, None, arith}
+use Rattle.std.specs.Prelude.{Result, Ok, Err, OnOk, filter, slice_get}
+use Rattle.std.proofs.lemmas.List.{length-map}
+use Rattle.std.specs.Option.{option_map}
+use Rattle.std.specs.declared.option.Option.{Option}
+use Rattle.std.proofs.lemmas.Option.{slice_get-map, slice_get_within}
 use Rattle.mk_base.specs.declared.name.Node.{Node}
 use Rattle.mk_base.specs.declared.diag.Diag.{Diag}
-use Rattle.face_model.specs.declared.result.How.TheVariants as how
-use Rattle.build_theory.proofs.Lists.{differ}
+use Rattle.hs_syntax.specs.declared.header.Header.{Header}
+use Rattle.hs_syntax.specs.declared.header.ImportItem.{ImportItem}
+use Rattle.mod_graph.specs.declared.graph.Graph.{Graph}
+use Rattle.mod_graph.specs.Entries.{imports_in}
+use Rattle.mod_graph.specs.Graph.{Input, entries, errors_by, ids, needs_in}
+use Rattle.mod_graph.specs.Kept.{IsGraph}
+use Rattle.mk_base.specs.declared.place.NodeId.{NodeId}
 use Rattle.plain_scope.specs.declared.scope.Content.{Content}
 use Rattle.plain_scope.specs.declared.scope.Checked.{Checked as CheckedModule}
-use Rattle.plain_scope.specs.declared.scope.Checked.TheVariants as checked
 use Rattle.plain_scope.specs.Scope.{contents_at}
-use Rattle.plain_face.specs.Interface.{IsSound, Fits}
-use Rattle.plain_build.specs.declared.places.Places.{Places}
-use Rattle.plain_build.specs.declared.build.PlainBuild.{PlainBuild}
-use Rattle.plain_build.specs.declared.done.Done.{Done}
 use Rattle.plain_build.specs.declared.reading.SourceReading.{SourceReading}
-use Rattle.plain_build.specs.Plain.{PlainTree, reading, imports_in, missing_among}
-use Rattle.plain_build.specs.Result.{is_checked}
-use Rattle.plain_build.specs.Steps.{ArePlaces, import_places, first_below}
-use Rattle.plain_build.specs.Kept.{empty_content, checked_how, result_of, HasSound}
-use Rattle.plain_build.specs.Done.{IsStanding, IsDone, judged_next, checked_of, sorted_tree}
-use Rattle.plain_build.proofs.Next.{imports_within, has_interface, next_graph, next_blocked, next_sound, next_wrong}
-
-module _ (t : PlainTree) (fine : IsStanding t) (places : Places) (right : ArePlaces places t.sources) (n : ℕ) (a : Node × List ℕ) (here : slice_get t.sources n ≡ Some a) (old : Done) (done : IsDone t old n) where
-  abbrev IsNext : Done → ℕ → Type 0
-  IsNext new k = IsDone t new (n + 1) × (is_checked (judged_next t a n).how ≡ k)
-
-  abbrev given : SourceReading → List Content
-  given r = contents_at old.contents.items (import_places places (imports_in r))
-
-  abbrev IsGraph : SourceReading → Type 0
-  IsGraph r = (new : Done) (ds : List Diag) (f : ℕ) → ds ≡ missing_among t (imports_in r) → (ds ≡ [] → ⊥) → f ≡ unwrap_or (first_below places old.firsts.items a.0 (imports_in r)) n
-      → new.results ≡ old.results ++ result_of a.0 how.Graph ds None ∷ [] → new.contents.items ≡ old.contents.items ++ empty_content ∷ [] → new.firsts.items ≡ old.firsts.items ++ Some f ∷ [] → IsNext new 0
-
-  pub graph_exit : (r : SourceReading) → r ≡ reading t.settings a.0 a.1 → IsGraph r
-  graph_exit r e = subst IsGraph (sym e) (next_graph t fine places right n a here old done)
-
-  abbrev IsBlocked : SourceReading → Type 0
-  IsBlocked r = (new : Done) (p : ℕ) → missing_among t (imports_in r) ≡ [] → first_below places old.firsts.items a.0 (imports_in r) ≡ Some p
-      → new.results ≡ old.results ++ result_of a.0 (how.Blocked (record { 0 = p })) [] None ∷ [] → new.contents.items ≡ old.contents.items ++ empty_content ∷ [] → new.firsts.items ≡ old.firsts.items ++ Some p ∷ [] → IsNext new 0
-
-  pub blocked_exit : (r : SourceReading) → r ≡ reading t.settings a.0 a.1 → IsBlocked r
-  blocked_exit r e = subst IsBlocked (sym e) (next_blocked t fine places right n a here old done)
-
-  abbrev AreWithin : SourceReading → Type 0
-  AreWithin r = missing_among t (imports_in r) ≡ [] → first_below places old.firsts.items a.0 (imports_in r) ≡ None → AllByRecursion (λ i. i < length old.contents.items) (import_places places (imports_in r))
-
-  pub within_exit : (r : SourceReading) → r ≡ reading t.settings a.0 a.1 → AreWithin r
-  within_exit r e = subst AreWithin (sym e) (imports_within t fine places right n a here old done)
-
-  abbrev IsOffer : SourceReading → Type 0
-  IsOffer r = missing_among t (imports_in r) ≡ [] → first_below places old.firsts.items a.0 (imports_in r) ≡ None
-      → (c : Content) → checked.Sound c ≡ checked_of t.settings.unit a.0.module.text r (given r) → IsSound t.settings.unit c × Fits t.settings.unit c × (c.module ≡ a.0.module.text)
-
-  pub offer_exit : (r : SourceReading) → r ≡ reading t.settings a.0 a.1 → IsOffer r
-  offer_exit r e = subst IsOffer (sym e) (has_interface t fine places right n a here old done)
-
-  abbrev IsSoundExit : SourceReading → Type 0
-  IsSoundExit r = missing_among t (imports_in r) ≡ [] → first_below places old.firsts.items a.0 (imports_in r) ≡ None
-      → (new : Done) (c : Content) → checked.Sound c ≡ checked_of t.settings.unit a.0.module.text r (given r) → HasSound t.settings.unit a.0 c old.results new.results
-      → new.contents.items ≡ old.contents.items ++ c ∷ [] → new.firsts.items ≡ old.firsts.items ++ None ∷ [] → IsNext new 1
-
-  pub sound_exit : (r : SourceReading) → r ≡ reading t.settings a.0 a.1 → IsSoundExit r
-  sound_exit r e = subst IsSoundExit (sym e) (next_sound t fine places right n a here old done)
-
-  abbrev IsWrongExit : SourceReading → Type 0
-  IsWrongExit r = missing_among t (imports_in r) ≡ [] → first_below places old.firsts.items a.0 (imports_in r) ≡ None
-      → (new : Done) (ds : List Diag) → checked.Wrong ds ≡ checked_of t.settings.unit a.0.module.text r (given r) → new.results ≡ old.results ++ result_of a.0 checked_how ds None ∷ []
-      → new.contents.items ≡ old.contents.items ++ empty_content ∷ [] → new.firsts.items ≡ old.firsts.items ++ Some n ∷ [] → IsNext new 1
-
-  pub wrong_exit : (r : SourceReading) → r ≡ reading t.settings a.0 a.1 → IsWrongExit r
-  wrong_exit r e = subst IsWrongExit (sym e) (next_wrong t fine places right n a here old done)
+use Rattle.plain_build.specs.declared.build.PlainBuild.{PlainBuild}
+use Rattle.plain_build.specs.Plain.{PlainTree, graph_errors, header_at, imports_of, input_of, is_told, unless_none}
+use Rattle.plain_build.specs.Steps.{first_unsound, import_places}
+use Rattle.plain_build.specs.Done.{IsPlanned, checked_of, nodes_of, ordered, sorted_tree}
 
 pub tree_unit : (input : PlainBuild) → (sorted_tree input).settings.unit ≡ input.unit.text
 unfolding sorted_tree
@@ -84,9 +35,9 @@ pub on_three : {X E : Type 0} (r : Result X E) (P Q R S : Type 0) → (P → Q �
 on_three (Ok x) P Q R S f p q r = f p q r
 on_three (Err e) P Q R S f p q r = tt
 
-pub given_is : (k : CheckedModule) (u v m l : List ℕ) (r : SourceReading) (cs ds : List Content) (is js : List ℕ) → k ≡ checked_of u m r (contents_at cs is) → u ≡ v → m ≡ l → cs ≡ ds → is ≡ js → k ≡ checked_of v l r (contents_at ds js)
-given_is k u v m l r cs ds is js e a b c d =
-    e ∙ ap (λ x. checked_of x m r (contents_at cs is)) a ∙ ap (λ x. checked_of v x r (contents_at cs is)) b ∙ ap (λ x. checked_of v l r (contents_at x is)) c ∙ ap (λ x. checked_of v l r (contents_at ds x)) d
+pub on_one : {X E : Type 0} (r : Result X E) (P Q : Type 0) → (P → Q) → OnOk r P → OnOk r Q
+on_one (Ok x) P Q f p = f p
+on_one (Err e) P Q f p = tt
 
 pub none_ticked : (k n : ℕ) → n ≡ 0 → k ≡ k + n
 none_ticked k n e = omega arith
@@ -94,10 +45,44 @@ none_ticked k n e = omega arith
 pub one_ticked : (k l n : ℕ) → l ≡ k + 1 → n ≡ 1 → l ≡ k + n
 one_ticked k l n e f = omega arith
 
-pub on_one : {X E : Type 0} (r : Result X E) (P Q : Type 0) → (P → Q) → OnOk r P → OnOk r Q
-on_one (Ok x) P Q f p = f p
-on_one (Err e) P Q f p = tt
+-- what is checked, by what it is made from
+pub given_is : (k : CheckedModule) (u v m l : List ℕ) (r s : SourceReading) (cs ds : List Content) (is js : List ℕ) → k ≡ checked_of u m r (contents_at cs is) → u ≡ v → m ≡ l → r ≡ s → cs ≡ ds → is ≡ js → k ≡ checked_of v l s (contents_at ds js)
+given_is k u v m l r s cs ds is js e a b c d f =
+    e ∙ ap (λ x. checked_of x m r (contents_at cs is)) a ∙ ap (λ x. checked_of v x r (contents_at cs is)) b ∙ ap (λ x. checked_of v l x (contents_at cs is)) c ∙ ap (λ x. checked_of v l s (contents_at x is)) d
+    ∙ ap (λ x. checked_of v l s (contents_at ds x)) f
 
-pub not_true : (b : Bool) → IsTrue b → b ≡ false → ⊥
-not_true true h e = differ e
-not_true false h e = differ (sym h)
+-- the imports of a node's header are those of its source
+pub header_imports : (input : PlainBuild) (h : Result Header Diag) (a : Node × List ℕ) (is : List ImportItem) → is ≡ imports_in input.prelude h → h ≡ header_at a.0 a.1 → is ≡ imports_of (sorted_tree input).settings a.0 a.1
+header_imports input h a is e f = e ∙ ap (imports_in input.prelude) f ∙ ap (λ (p : Bool). imports_in p (header_at a.0 a.1)) (sym (tree_prelude input))
+
+-- the places of the imports, in the tree's order
+pub tree_places : (t : PlainTree) (g : Graph) (n : ℕ) (a : Node × List ℕ) (is : List ImportItem) (ps : List ℕ) → IsPlanned t g → ps ≡ import_places (input_of t) g.order n is → is ≡ imports_of t.settings a.0 a.1
+    → ps ≡ import_places (input_of t) (nodes_of (ordered t)) n (imports_of t.settings a.0 a.1)
+tree_places t g n a is ps plan e f = e ∙ ap (λ (ns : List Node). import_places (input_of t) ns n is) plan.order ∙ ap (import_places (input_of t) (nodes_of (ordered t)) n) f
+
+-- the place of a node is one of the graph's
+pub place_below : (t : PlainTree) (g : Graph) (n : ℕ) (a : Node × List ℕ) → IsPlanned t g → slice_get (ordered t) n ≡ Some a → n < length g.order
+place_below t g n a plan here =
+    let count : length g.order ≡ length (ordered t) = ap length plan.order ∙ length-map (ordered t) (λ (q : Node × List ℕ). q.0) in
+    let lt = slice_get_within (ordered t) n a here in
+    omega arith
+
+module _ (t : PlainTree) (g : Graph) (n : ℕ) (a : Node × List ℕ) (plan : IsPlanned t g) (here : slice_get (ordered t) n ≡ Some a) where
+  node_here : slice_get g.order n ≡ Some a.0
+  node_here = ap (λ (ns : List Node). slice_get ns n) plan.order ∙ slice_get-map (λ (q : Node × List ℕ). q.0) (ordered t) n ∙ ap (option_map (λ (q : Node × List ℕ). q.0)) here
+
+  -- the diagnostics that the graph has of the node
+  pub graph_told : (es ds : List Diag) → ((i : Input) (q : Node) → IsGraph i g → slice_get g.order n ≡ Some q → es ≡ errors_by i q) → ds ≡ filter (is_told a.0) es → ds ≡ filter (is_told a.0) (errors_by (input_of t) a.0)
+  graph_told es ds are e = e ∙ ap (filter (is_told a.0)) (are (input_of t) a.0 plan.graph node_here)
+
+  pub none_told : (ds : List Diag) → ds ≡ filter (is_told a.0) (errors_by (input_of t) a.0) → ds ≡ [] → graph_errors t a.0 ≡ None
+  none_told ds e none = ap unless_none (sym e ∙ none)
+
+  -- the needs that the graph has of it
+  pub graph_needs : (needs : List NodeId) → ((i : Input) (q : Node) → IsGraph i g → slice_get g.order n ≡ Some q → ids needs ≡ needs_in (entries i) g.order n q)
+      → ids needs ≡ needs_in (entries (input_of t)) (nodes_of (ordered t)) n a.0
+  graph_needs needs are = are (input_of t) a.0 plan.graph node_here ∙ ap (λ (ns : List Node). needs_in (entries (input_of t)) ns n a.0) plan.order
+
+-- the first need that isn't sound, by what is kept
+pub first_kept : (bs cs : List Bool) (ns ms : List NodeId) (r o : Option NodeId) → r ≡ first_unsound bs ns → bs ≡ cs → ns ≡ ms → r ≡ o → first_unsound cs ms ≡ o
+first_kept bs cs ns ms r o e f g h = sym (e ∙ ap (λ (x : List Bool). first_unsound x ns) f ∙ ap (first_unsound cs) g) ∙ h

@@ -8,15 +8,15 @@ use Rattle.hs_lex.specs.Tokens.{Lexes, IsFirstBad}
 use Rattle.hs_lex.proofs.Slow.{lexes_exactly, bad_exactly}
 use Rattle.plain_build.specs.declared.reading.SourceReading.{SourceReading}
 use Rattle.plain_build.specs.declared.reading.SourceReading.TheVariants.{Refused}
-use Rattle.plain_build.specs.Plain.{Settings, by_tokens, no_lexeme, reading}
+use Rattle.plain_build.specs.Plain.{by_tokens, no_lexeme, reading}
 
 -- the source with these lexemes is read as they are
-pub lexed : (g : Settings) (n : Node) (s : List ℕ) (ts : List Token) (r : SourceReading) → Lexes s ts → r ≡ by_tokens g n (Ok ts) → r ≡ reading g n s
-lexed g n s ts r h e = e ∙ sym (ap (by_tokens g n) ((lexes_exactly s ts).1 h))
+pub lexed : (n : Node) (s : List ℕ) (ts : List Token) (r : SourceReading) → Lexes s ts → r ≡ by_tokens n (Ok ts) → r ≡ reading n s
+lexed n s ts r h e = e ∙ sym (ap (by_tokens n) ((lexes_exactly s ts).1 h))
 
 -- the source with this first bad place is refused there
-pub unlexed : (g : Settings) (n : Node) (s : List ℕ) (at : Pos) → IsFirstBad s at → Refused (no_lexeme at) ≡ reading g n s
-unlexed g n s at h = sym (ap (by_tokens g n) ((bad_exactly s at).1 h))
+pub unlexed : (n : Node) (s : List ℕ) (at : Pos) → IsFirstBad s at → Refused (no_lexeme at) ≡ reading n s
+unlexed n s at h = sym (ap (by_tokens n) ((bad_exactly s at).1 h))
 
 pub if_ok : {X E : Type 0} (P Q : X → Type 0) (r : Result X E) → ((x : X) → P x → Q x) → IfOk r P → IfOk r Q
 if_ok P Q (Ok x) f p = f x p

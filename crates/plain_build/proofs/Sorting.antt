@@ -10,11 +10,11 @@ use Rattle.build_theory.specs.Laws as laws
 use Rattle.build_theory.proofs.Lists.{both_ways, same_shuffled, all_shuffled, all_at, all_map, in_shuffled, shuffled_back, clash}
 use Rattle.build_theory.proofs.Files.{put_first, put_later, sorting_shuffles, distinct_shuffled}
 use Rattle.plain_build.specs.declared.sources.Source.{Source}
-use Rattle.plain_build.specs.Plain.{plain, less_node}
+use Rattle.mod_graph.specs.Names.{less_node}
+use Rattle.plain_build.specs.Plain.{plain}
 use Rattle.plain_build.specs.Steps.{pairs}
 use Rattle.plain_build.specs.Done.{AreRising}
-use Rattle.plain_build.proofs.Order.{plain_ordered}
-use Rattle.plain_build.proofs.Fuel.{not_less}
+use Rattle.plain_build.proofs.Order.{plain_ordered, not_less}
 
 module _ {X : Type 0} where
   -- the first element changes places with one behind it

@@ -1,11 +1,12 @@
 -- What is kept of the nodes that are done.
-use Rattle.std.specs.Prelude.{◌≡◌, ℕ, ◌<◌, ◌≤◌, ◌^◌, Bool, true, false, ◌&&◌, ◌||◌, not, List, [], ◌∷◌, length, map, take, slice_get, Some, None}
-use Rattle.std.specs.declared.option.Option.{Option}
-use Rattle.std.specs.Option.{option_map_or}
+use Rattle.std.specs.Prelude.{◌≡◌, ℕ, ◌<◌, ◌≤◌, ◌^◌, Bool, true, List, [], ◌∷◌, length, map, take, None}
 use Rattle.std.specs.List.{AllByRecursion}
 use Rattle.mk_base.specs.declared.name.Node.{Node}
 use Rattle.mk_base.specs.declared.diag.Diag.{Diag}
-use Rattle.build_theory.specs.Build.{Outcome, Sound, outcomes, is_sound, sorted, order, results, step}
+use Rattle.build_theory.specs.Build.{Outcome, Sound, outcomes, is_sound, sorted, order, results, step, first_bad}
+use Rattle.mod_graph.specs.declared.graph.Graph.{Graph}
+use Rattle.mod_graph.specs.Names.{less_node}
+use Rattle.mod_graph.specs.Kept.{IsGraph}
 use Rattle.plain_scope.specs.declared.scope.Content.{Content}
 use Rattle.plain_scope.specs.declared.scope.Checked.{Checked}
 use Rattle.plain_scope.specs.declared.scope.Checked.TheVariants.{Wrong}
@@ -14,16 +15,23 @@ use Rattle.plain_build.specs.declared.build.PlainBuild.{PlainBuild}
 use Rattle.plain_build.specs.declared.done.Done.{Done}
 use Rattle.plain_build.specs.declared.reading.SourceReading.{SourceReading}
 use Rattle.plain_build.specs.declared.reading.SourceReading.TheVariants.{Whole, Refused}
-use Rattle.plain_build.specs.Plain.{PlainTree, plain, same_node, less_node, reaches}
+use Rattle.plain_build.specs.Plain.{PlainTree, plain, input_of, graph_errors}
 use Rattle.plain_build.specs.Result.{PlainJudged, AreResults, tree_of}
 
 -- the tree that is built, with its sources by node
 unfoldable pub sorted_tree : PlainBuild → PlainTree
 sorted_tree input = sorted plain (tree_of input)
 
--- the results of the first nodes, so many of them
+-- the sources of a tree in the order of its nodes
+unfoldable pub ordered : PlainTree → List (Node × List ℕ)
+ordered t = order plain t
+
+abbrev pub nodes_of : List (Node × List ℕ) → List Node
+nodes_of qs = map (λ (q : Node × List ℕ). q.0) qs
+
+-- the results of the first nodes in order, so many of them
 unfoldable pub judged_before : PlainTree → ℕ → List (Node × PlainJudged)
-judged_before t n = results plain t [] [] (take n t.sources)
+judged_before t n = results plain t [] [] (take n (ordered t))
 
 -- the result of a node behind the first nodes
 unfoldable pub judged_next : PlainTree → Node × List ℕ → ℕ → PlainJudged
@@ -34,16 +42,26 @@ abbrev pub AreRising : List (Node × List ℕ) → Type 0
 AreRising [] = Unit {0}
 AreRising (q ∷ qs) = AllByRecursion (λ r. less_node q.0 r.0 ≡ true) qs × AreRising qs
 
-abbrev pub IsSmallSource : Node × List ℕ → Type 0
-IsSmallSource q = (length q.0.module.text ≤ 1048576) × (length q.1 ≤ 1048576)
+abbrev pub IsShortNode : Node × List ℕ → Type 0
+IsShortNode q = length q.0.module.text ≤ 1048576
 
--- A tree whose sources stand by node, which is their order, each of them of at most 1 MiB.
+-- A tree whose sources stand by node, with names of at most 1 MiB.
 pub record IsStanding (t : PlainTree) : Type 0 where
   pub rising : AreRising t.sources
-  pub stays : order plain t ≡ t.sources
   pub unit : length t.settings.unit ≤ 64
   pub few : length t.sources < 2 ^ 32
-  pub small : AllByRecursion IsSmallSource t.sources
+  pub short : AllByRecursion IsShortNode t.sources
+
+-- The graph of a standing tree: its nodes stand in the tree's order.
+pub record IsPlanned (t : PlainTree) (g : Graph) : Type 0 where
+  pub standing : IsStanding t
+  pub graph : IsGraph (input_of t) g
+  pub order : g.order ≡ nodes_of (ordered t)
+
+-- A node is checked: it has no diagnostics of the graph stage, and all that it needs is sound.
+pub record IsFree (t : PlainTree) (n : Node) (place : ℕ) : Type 0 where
+  pub no_errors : graph_errors t n ≡ None
+  pub no_bad : first_bad plain t n (outcomes (judged_before t place)) (ordered t) ≡ None
 
 abbrev pub IsContent : Content → Outcome Node Content (List Diag) → Type 0
 IsContent c (Sound b) = c ≡ b
@@ -55,31 +73,16 @@ AreContents [] [] = Unit {0}
 AreContents (c ∷ cs) (j ∷ js) = IsContent c j.1.outcome × AreContents cs js
 AreContents _ _ = ⊥
 
--- the node at this place is done and isn't sound
-abbrev pub is_bad : List (Node × PlainJudged) → ℕ → Bool
-is_bad js k = option_map_or (λ (j : Node × PlainJudged). not (is_sound j.1.outcome)) (slice_get js k) false
-
--- the node at this place is this one, or this one leads to it
-abbrev pub touches : PlainTree → Node → ℕ → Bool
-touches t a k = option_map_or (λ (q : Node × List ℕ). same_node a q.0 || reaches (length t.sources) t a q.0) (slice_get t.sources k) false
-
--- the least number that passes, or there is none
-abbrev pub IsLeast : (ℕ → Bool) → Option ℕ → Type 0
-IsLeast p None = (k : ℕ) → p k ≡ false
-IsLeast p (Some m) = (p m ≡ true) × ((k : ℕ) → k < m → p k ≡ false)
-
--- for each node that is done the first that isn't sound among it and its needs
-abbrev pub AreFirsts : PlainTree → List (Node × PlainJudged) → List (Option ℕ) → Type 0
-AreFirsts t js firsts = (k : ℕ) (o : Option ℕ) (q : Node × List ℕ) → slice_get firsts k ≡ Some o → slice_get t.sources k ≡ Some q
-    → IsLeast (λ i. touches t q.0 i && is_bad js i) o
+-- which nodes are sound
+abbrev pub soundness : List (Node × PlainJudged) → List Bool
+soundness js = map (λ (j : Node × PlainJudged). is_sound j.1.outcome) js
 
 -- What is kept once so many nodes are done.
 pub record IsDone (t : PlainTree) (done : Done) (n : ℕ) : Type 0 where
-  pub results : AreResults t.settings.unit (map (λ (q : Node × List ℕ). q.0) t.sources) done.results (judged_before t n)
+  pub results : AreResults t.settings.unit (nodes_of (ordered t)) done.results (judged_before t n)
   pub contents : AreContents done.contents.items (judged_before t n)
   pub small : AllByRecursion (λ (c : Content). length c.module ≤ 1048576) done.contents.items
-  pub count : length done.firsts.items ≡ n
-  pub firsts : AreFirsts t (judged_before t n) done.firsts.items
+  pub sound : done.sound.items ≡ soundness (judged_before t n)
 
 -- the check of what was read, with the contents of the imports
 abbrev pub checked_of : List ℕ → List ℕ → SourceReading → List Content → Checked

@@ -32,8 +32,9 @@ abbrev pub AreDistinct : List File → Type 0
 AreDistinct [] = Unit {0}
 AreDistinct (f ∷ fs) = AllByRecursion (λ (g : File). f.name ≡ g.name → ⊥) fs × AreDistinct fs
 
-abbrev pub AreSmall : List File → Type 0
-AreSmall files = AllByRecursion (λ (f : File). (length f.name ≤ 1048576) × (length f.bytes ≤ 1048576)) files
+-- the names of the files have at most 1,048,576 bytes
+abbrev pub AreShort : List File → Type 0
+AreShort files = AllByRecursion (λ (f : File). length f.name ≤ 1048576) files
 
 abbrev pub tree_of : PlainBuild → PlainTree
 tree_of input = record { settings = record { unit = input.unit.text; prelude = input.prelude }; sources = sources_of input.files }

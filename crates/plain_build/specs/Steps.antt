@@ -1,16 +1,16 @@
--- What the steps of a build keep: where the nodes stand, and for each node the first that isn't sound among it and its needs.
-use Rattle.std.specs.Prelude.{◌≡◌, ℕ, Bool, true, false, List, [], ◌∷◌, ◌++◌, map, slice_get, Some, None, codes, nat_lt, if◌then◌else◌}
+-- What the steps of a build go by: where sources and nodes stand, which needs are sound, and where imports are done.
+use Rattle.std.specs.Prelude.{◌≡◌, ℕ, Bool, true, false, not, nat_lt, List, [], ◌∷◌, map, slice_get, position, Some, None, if◌then◌else◌}
 use Rattle.std.specs.declared.option.Option.{Option}
-use Rattle.std.specs.List.{list_any, flat_map}
+use Rattle.std.specs.Option.{option_map_or}
+use Rattle.std.specs.List.{list_any, find, flat_map}
 use Rattle.indexmap.specs.IndexMap.{get}
 use Rattle.mk_base.specs.declared.name.Node.{Node}
-use Rattle.mk_base.specs.declared.diag.Diag.{Diag}
-use Rattle.plain_form.specs.declared.form.Word.{Word}
-use Rattle.plain_form.specs.Words.{same_text}
-use Rattle.plain_scope.specs.Scope.{diag_at}
+use Rattle.mk_base.specs.declared.place.NodeId.{NodeId}
+use Rattle.hs_syntax.specs.declared.header.ImportItem.{ImportItem}
+use Rattle.mod_graph.specs.Names.{same_text, same_node, node_named}
+use Rattle.mod_graph.specs.Graph.{Input, View, Tree, view_of}
 use Rattle.plain_build.specs.declared.places.Places.{Places}
 use Rattle.plain_build.specs.declared.sources.Source.{Source}
-use Rattle.plain_build.specs.Plain.{same_node, node_named}
 
 abbrev pub pairs : List Source → List (Node × List ℕ)
 pairs sources = map (λ (s : Source). (s.node, s.bytes.now)) sources
@@ -28,50 +28,36 @@ IsPlace qs n (Some i) = (s : List ℕ) × (slice_get qs i ≡ Some (n, s))
 abbrev pub ArePlaces : Places → List (Node × List ℕ) → Type 0
 ArePlaces p qs = (boot : Bool) (m : List ℕ) → IsPlace qs (node_named m boot) (place_in p boot m)
 
-abbrev pub not_found : Word → Diag
-not_found y = diag_at y.at 10 (codes "module " ++ (y.text ++ codes " not found"))
+-- the node at this place is done and sound
+abbrev pub is_kept : List Bool → ℕ → Bool
+is_kept sound k = option_map_or (λ (b : Bool). b) (slice_get sound k) false
 
--- the diagnostics of an import of the module at this place
-abbrev pub missing_in : Option ℕ → Word → List Diag
-missing_in (Some i) y = []
-missing_in None y = not_found y ∷ []
+-- the first of some needs that isn't sound, or isn't done yet
+abbrev pub first_unsound : List Bool → List NodeId → Option NodeId
+first_unsound sound needs = find (λ (n : NodeId). not (is_kept sound n.0)) needs
+
+-- the place of a node that is seen, in an order
+abbrev pub node_place : List Node → Option View → Option ℕ
+node_place ns (Some (Tree m)) = position (same_node m) ns
+node_place ns _ = None
+
+-- a place before this one
+abbrev pub before_place : ℕ → Option ℕ → Option ℕ
+before_place place (Some k) = if nat_lt k place then Some k else None
+before_place place None = None
+
+abbrev pub view_by : Input → Option Node → List ℕ → Option View
+view_by i (Some n) m = view_of i n m
+view_by i None m = None
+
+-- the place of what the node at a place sees of a module, where that is done before it
+abbrev pub seen_place : Input → List Node → ℕ → List ℕ → Option ℕ
+seen_place i ns place m = before_place place (node_place ns (view_by i (slice_get ns place) m))
 
 abbrev pub one_place : Option ℕ → List ℕ
-one_place (Some i) = i ∷ []
+one_place (Some k) = k ∷ []
 one_place None = []
 
-abbrev pub import_places : Places → List Word → List ℕ
-import_places p ys = flat_map (λ (y : Word). one_place (place_in p false y.text)) ys
-
-abbrev pub lesser : Option ℕ → Option ℕ → Option ℕ
-lesser None b = b
-lesser (Some x) None = Some x
-lesser (Some x) (Some y) = Some (if nat_lt y x then y else x)
-
-abbrev pub first_kept : Option (Option ℕ) → Option ℕ
-first_kept (Some o) = o
-first_kept None = None
-
--- the first that isn't sound among the node at a place and its needs, where it is kept
-abbrev pub first_from : List (Option ℕ) → Option ℕ → Option ℕ
-first_from firsts (Some i) = first_kept (slice_get firsts i)
-first_from firsts None = None
-
-abbrev pub place_or : Option ℕ → Option ℕ → Option ℕ
-place_or (Some i) b = Some i
-place_or None b = b
-
--- an import leads to the real node, and where there is none on to the boot node alone
-abbrev pub import_place : Places → List ℕ → Option ℕ
-import_place p y = place_or (place_in p false y) (place_in p true y)
-
-abbrev pub first_of_imports : Places → List (Option ℕ) → List Word → Option ℕ
-first_of_imports p firsts [] = None
-first_of_imports p firsts (y ∷ ys) = lesser (first_from firsts (import_place p y.text)) (first_of_imports p firsts ys)
-
-abbrev pub first_of_boot : Places → List (Option ℕ) → Node → Option ℕ
-first_of_boot p firsts n = if n.boot then None else first_from firsts (place_in p true n.module.text)
-
--- the first that isn't sound among the needs of a node, from what is kept of the nodes before it
-abbrev pub first_below : Places → List (Option ℕ) → Node → List Word → Option ℕ
-first_below p firsts n ys = lesser (first_of_boot p firsts n) (first_of_imports p firsts ys)
+-- the places of what the node at a place sees of the modules that it imports, of those that are done before it
+abbrev pub import_places : Input → List Node → ℕ → List ImportItem → List ℕ
+import_places i ns place ys = flat_map (λ (y : ImportItem). one_place (seen_place i ns place y.module.text)) ys

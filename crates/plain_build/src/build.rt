@@ -1,15 +1,19 @@
 //! The build, node by node in order.
-ghost use Rattle.std.specs.Prelude.{◌≡◌, ◌+◌, ◌≤◌, ◌<◌, ◌^◌, IfOk, OnOk, length, codes};
-ghost use Rattle.build_theory.specs.Laws.{IsDownward, IsExact, IsOrdered};
+ghost use Rattle.std.specs.Prelude.{◌≡◌, ◌+◌, ◌≤◌, ◌<◌, ◌^◌, ℕ, true, List as Row, IfOk, OnOk, length, map, codes};
+ghost use Rattle.mk_base.specs.declared.name.Node.{Node};
+ghost use Rattle.build_theory.specs.Laws.{AreDistinct as AreApart, IsExact, IsIn, IsOrdered};
+ghost use Rattle.build_theory.specs.Machine.{HasNoCycleBefore, HasPlace};
 ghost use Rattle.plain_build.specs.Ordered.{BuildsAreOrdered};
-ghost use Rattle.plain_build.specs.Plain.{PlainTree, plain};
+ghost use Rattle.mod_graph.specs.Kept.{IsGraph};
+ghost use Rattle.plain_build.specs.Plain.{PlainTree, header_for, input_of, plain};
 ghost use Rattle.plain_build.specs.Done.{IsStanding, sorted_tree};
-ghost use Rattle.plain_build.specs.Steps.{ArePlaces, pairs};
-ghost use Rattle.plain_build.specs.Result.{AreDistinct, AreResults, AreSmall, IsUnitName, built, checks_in, nodes_in};
+ghost use Rattle.plain_build.specs.Steps.{pairs};
+ghost use Rattle.plain_build.specs.Result.{AreDistinct, AreResults, AreShort, IsUnitName, built, checks_in, nodes_in};
 
 use crate::done::Done;
-use crate::node::build_node;
-use crate::places::{Places, places_of};
+use crate::headers::headers_of;
+use crate::node::{Plan, build_node};
+use crate::places::{place_of, places_of};
 use crate::sources::{Source, list_sources, sort_sources};
 use face_model::result::{BuildResult, NodeResult};
 use mk_base::list::List;
@@ -17,6 +21,8 @@ use mk_base::memory::NoMemory;
 use mk_base::name::Unit;
 use mk_base::steps::{Ledger, Steps};
 use mk_io::file::File;
+use mod_graph::graph::Graph;
+use mod_graph::input::HeaderOf;
 use std::alloc::Global;
 
 /// A tree to be built: its unit, its flags, its files, and the stored interfaces, which count as none so far.
@@ -40,15 +46,23 @@ pub fn build_plain<L: Ledger>(
     requires files { AreDistinct input.now.files }
     requires store { AreDistinct input.now.store }
     requires few { length input.now.files < 2 ^ 32 }
-    requires sizes { AreSmall input.now.files }
+    requires names { AreShort input.now.files }
     ensures build { IfOk result (λ b. AreResults input.now.unit.text (nodes_in (built input.now)) b.nodes (built input.now)) }
     ensures checks { OnOk result (steps.new ≡ steps.old + checks_in (built input.now)) }
     ensures later { steps.old ≤ steps.new }
 {
     let mut sources = list_sources(alloc, input.files.as_slice())?;
     sort_sources(sources.as_mut_slice());
-    let places = places_of(alloc, sources.as_slice())?;
-    let nodes = build_nodes(alloc, input, &places, sources.as_slice(), steps)?;
+    let headers = headers_of(alloc, sources.as_slice())?;
+    let graph = Graph::build(alloc, &headers, &List::new(alloc), input.prelude)?;
+    let nodes = build_nodes(
+        alloc,
+        input,
+        sources.as_slice(),
+        headers.as_slice(),
+        &graph,
+        steps,
+    )?;
     Ok(BuildResult { nodes })
 }
 
@@ -56,26 +70,33 @@ pub fn build_plain<L: Ledger>(
 fn build_nodes<L: Ledger>(
     alloc: Global,
     input: &PlainBuild,
-    places: &Places,
     sources: &[Source<'_>],
+    headers: &[HeaderOf],
+    graph: &Graph,
     steps: &mut Steps<L>,
 ) -> Result<List<NodeResult>, NoMemory>
     requires standing { IsStanding (sorted_tree input.now) }
-    requires places { ArePlaces places.now (sorted_tree input.now).sources }
+    requires graph { IsGraph (input_of (sorted_tree input.now)) graph.now }
     requires sources { pairs sources.now ≡ (sorted_tree input.now).sources }
+    requires headers { headers.now ≡ map header_for (sorted_tree input.now).sources }
     ensures build { IfOk result (λ rs. AreResults input.now.unit.text (nodes_in (built input.now)) rs (built input.now)) }
     ensures checks { OnOk result (steps.new ≡ steps.old + checks_in (built input.now)) }
     ensures later { steps.old ≤ steps.new }
 {
+    let places = places_of(alloc, sources)?;
+    let plan = Plan { input, graph };
     let mut done = Done {
         results: List::new(alloc),
         contents: Vec::new(alloc),
-        firsts: Vec::new(alloc),
+        sound: Vec::new(alloc),
     };
-    let mut place = 0;
-    for source in sources {
-        build_node(alloc, input, places, source, place, &mut done, steps)?;
-        place += 1;
+    for (place, node) in graph.order().as_slice().iter().enumerate() {
+        let Some(at) = place_of(&places, node.boot, &node.module.text) else {
+            unreachable!()
+        };
+        let source = &sources[at];
+        let header = &headers[at];
+        build_node(alloc, &plan, place as u32, source, header, &mut done, steps)?;
     }
     Ok(done.results)
 }
@@ -86,12 +107,17 @@ pub fn plain_is_lawful()
     ensures exact { IsExact plain }
 {}
 
-/// Each node needs lesser ones alone.
-pub fn needs_are_lesser()
-    ensures { (t : PlainTree) → IsDownward plain t }
+/// What a need of a node needs, the node needs too.
+pub fn needs_lead_on()
+    ensures { (t : PlainTree) (a b c : Node) → plain.needs t a b ≡ true → plain.needs t b c ≡ true → plain.needs t a c ≡ true }
 {}
 
-/// The diagnostics of each node of a build stand in the order of their places, no two at one place.
+/// The order has a node before which there is no cycle of needs behind all that it needs.
+pub fn needs_stand_before_nodes()
+    ensures { (t : PlainTree) → AreApart plain t.sources → (q : Node × Row ℕ) → IsIn q t.sources → HasNoCycleBefore plain t q.0 → HasPlace plain t q }
+{}
+
+/// The diagnostics of each node of a build stand in the order of their places, numbers and texts, no two alike.
 pub fn diagnostics_are_ordered()
     ensures { BuildsAreOrdered }
 {}

@@ -1,5 +1,5 @@
 //! What is kept of the nodes that are done.
-ghost use Rattle.std.specs.Prelude.{◌≡◌, ◌++◌, ◌∷◌, [], OnOk, Some, None};
+ghost use Rattle.std.specs.Prelude.{◌≡◌, ◌++◌, ◌∷◌, [], OnOk, Some, None, true, false};
 ghost use Rattle.plain_face.specs.Interface.{Fits, IsInterface, IsSound};
 ghost use Rattle.plain_build.specs.Kept.{empty_content, result_of, checked_how, HasSound};
 
@@ -14,13 +14,12 @@ use plain_face::interface::interface_bytes;
 use plain_scope::scope::Content;
 use std::alloc::Global;
 
-/// The nodes that are done, each at its place: the results, the contents of the sound ones, and for each the least
-/// place of a node that isn't sound among it and its needs.
+/// The nodes that are done, each at its place: the results, the contents of the sound ones, and which are sound.
 #[derive(Drop)]
 pub struct Done {
     pub results: List<NodeResult>,
     pub contents: Vec<Content>,
-    pub firsts: Vec<Option<u32>>,
+    pub sound: Vec<bool>,
 }
 
 /// How a node that was checked came to its result.
@@ -33,34 +32,28 @@ pub fn how_checked(alloc: Global) -> How
     }
 }
 
-fn put(
-    done: &mut Done,
-    outcome: NodeResult,
-    content: Content,
-    first: Option<u32>,
-) -> Result<(), NoMemory>
+fn put(done: &mut Done, outcome: NodeResult, content: Content, sound: bool) -> Result<(), NoMemory>
     ensures results { OnOk result (done.new.results ≡ done.old.results ++ outcome ∷ []) }
     ensures contents { OnOk result (done.new.contents.items ≡ done.old.contents.items ++ content ∷ []) }
-    ensures firsts { OnOk result (done.new.firsts.items ≡ done.old.firsts.items ++ first ∷ []) }
+    ensures sound { OnOk result (done.new.sound.items ≡ done.old.sound.items ++ sound ∷ []) }
 {
     done.results.push(outcome)?;
     done.contents.push(content)?;
-    done.firsts.push(first)?;
+    done.sound.push(sound)?;
     Ok(())
 }
 
-/// Keeps a node that isn't sound, and the least place of such a node among it and its needs.
+/// Keeps a node that isn't sound.
 pub fn put_unsound(
     alloc: Global,
     done: &mut Done,
     node: &Node,
     how: How,
     diags: List<Diag>,
-    first: u32,
 ) -> Result<(), NoMemory>
     ensures results { OnOk result (done.new.results ≡ done.old.results ++ result_of node.now how diags None ∷ []) }
     ensures contents { OnOk result (done.new.contents.items ≡ done.old.contents.items ++ empty_content ∷ []) }
-    ensures firsts { OnOk result (done.new.firsts.items ≡ done.old.firsts.items ++ Some first ∷ []) }
+    ensures sound { OnOk result (done.new.sound.items ≡ done.old.sound.items ++ false ∷ []) }
 {
     let outcome = NodeResult {
         node: node.copy(alloc)?,
@@ -72,7 +65,7 @@ pub fn put_unsound(
         module: Text::new(alloc),
         datas: List::new(alloc),
     };
-    put(done, outcome, content, Some(first))
+    put(done, outcome, content, false)
 }
 
 /// Keeps a sound node, all of whose needs are sound.
@@ -87,7 +80,7 @@ pub fn put_sound(
     requires fits { Fits unit.now content }
     ensures results { OnOk result (HasSound unit.now node.now content done.old.results done.new.results) }
     ensures contents { OnOk result (done.new.contents.items ≡ done.old.contents.items ++ content ∷ []) }
-    ensures firsts { OnOk result (done.new.firsts.items ≡ done.old.firsts.items ++ None ∷ []) }
+    ensures kept { OnOk result (done.new.sound.items ≡ done.old.sound.items ++ true ∷ []) }
 {
     let interface = interface_bytes(alloc, unit, &content)?;
     let bytes = Bytes::from_vec(interface.into_vec())?;
@@ -97,5 +90,5 @@ pub fn put_sound(
         diags: List::new(alloc),
         bytes: Some(bytes),
     };
-    put(done, outcome, content, None)
+    put(done, outcome, content, true)
 }

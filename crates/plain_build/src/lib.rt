@@ -3,7 +3,7 @@
 
 pub mod build;
 mod done;
-mod graph;
+mod headers;
 mod node;
 mod places;
 mod reading;

@@ -1,28 +1,124 @@
 //! The build of one node, behind those before it.
-ghost use Rattle.std.specs.Prelude.{◌≡◌, ◌∷◌, [], ◌+◌, ◌<◌, ◌≤◌, ◌^◌, Some, None, IfOk, OnOk, length, slice_get};
+ghost use Rattle.std.specs.Prelude.{◌≡◌, ◌+◌, ◌<◌, ◌≤◌, ◌∷◌, List as Row, [], length, filter, slice_get, nat_lt, Some, None, IfOk, OnOk, if◌then◌else◌};
 ghost use Rattle.std.specs.List.{AllByRecursion};
 ghost use Rattle.plain_scope.specs.Scope.{contents_at};
-ghost use Rattle.plain_build.specs.Plain.{imports_in, missing_among};
 ghost use Rattle.plain_build.specs.Plain as spec;
 ghost use Rattle.plain_build.specs.Result.{is_checked};
-ghost use Rattle.plain_build.specs.Steps.{ArePlaces};
-ghost use Rattle.plain_build.specs.Steps as steps_of;
-ghost use Rattle.plain_build.specs.Done.{IsDone, IsStanding, checked_of, judged_next, sorted_tree};
+ghost use Rattle.plain_build.specs.Steps as steps_spec;
+ghost use Rattle.plain_build.specs.Done.{IsDone, IsFree, IsPlanned, checked_of, judged_next, ordered, sorted_tree};
 
 use crate::build::PlainBuild;
 use crate::done::{Done, how_checked, put_sound, put_unsound};
-use crate::graph::{first_below, import_places, missing_imports};
-use crate::places::Places;
-use crate::reading::{SourceReading, imports_of, read_node};
+use crate::headers::effective_imports;
+use crate::reading::{SourceReading, read_node};
 use crate::sources::Source;
 use face_model::result::How;
+use hs_syntax::header::ImportItem;
 use mk_base::diag::Diag;
 use mk_base::list::List;
 use mk_base::memory::NoMemory;
+use mk_base::name::{ModName, Node};
 use mk_base::place::NodeId;
 use mk_base::steps::{Ledger, Steps};
+use mod_graph::graph::Graph;
+use mod_graph::input::{HeaderOf, ViewOf};
 use plain_scope::scope::{Checked, Content, check};
 use std::alloc::Global;
+
+/// What the build of each node goes by: the tree, and the graph of its modules.
+#[derive(Drop)]
+pub struct Plan<'a> {
+    pub input: &'a PlainBuild,
+    pub graph: &'a Graph,
+}
+
+/// The diagnostics that are told of a node: of a boot file not that its real file isn't there.
+fn told_errors(alloc: Global, node: &Node, errors: &[Diag]) -> Result<List<Diag>, NoMemory>
+    ensures { IfOk result (λ ds. ds ≡ filter (spec.is_told node.now) errors.now) }
+{
+    let mut told = List::new(alloc);
+    for error in errors {
+        if !(node.boot && error.code == 10) {
+            told.push(error.copy(alloc)?)?;
+        }
+    }
+    Ok(told)
+}
+
+/// Whether the node at this place is done and sound.
+fn is_kept(sound: &[bool], place: usize) -> bool
+    ensures { result ≡ steps_spec.is_kept sound.now place }
+{
+    match sound.get(place) {
+        Some(kept) => *kept,
+        None => false,
+    }
+}
+
+/// The first of some needs that isn't sound, or isn't done yet.
+fn first_unsound(needs: &[NodeId], sound: &[bool]) -> Option<NodeId>
+    ensures { result ≡ steps_spec.first_unsound sound.now needs.now }
+{
+    for need in needs {
+        if !is_kept(sound, need.0 as usize) {
+            return Some(*need);
+        }
+    }
+    None
+}
+
+/// The place of a node, where it is before this one.
+fn before_place(node: NodeId, place: u32) -> Option<usize>
+    ensures { result ≡ (if nat_lt node.0 place then Some node.0 else None) }
+{
+    if node.0 < place {
+        Some(node.0 as usize)
+    } else {
+        None
+    }
+}
+
+/// The place of what the node at a place sees of a module that it imports, where that is a node before it.
+fn seen_place(
+    alloc: Global,
+    plan: &Plan<'_>,
+    place: u32,
+    import: &ImportItem,
+) -> Result<Option<usize>, NoMemory>
+    requires plan { IsPlanned (sorted_tree plan.now.input.now) plan.now.graph.now }
+    requires place { place < length plan.now.graph.now.order }
+    ensures { IfOk result (λ p. p ≡ steps_spec.seen_place (spec.input_of (sorted_tree plan.now.input.now)) plan.now.graph.now.order place import.now.module.text) }
+{
+    let name = ModName {
+        text: import.module.text.copy(alloc)?,
+    };
+    match plan.graph.view(NodeId(place), &name) {
+        Some(ViewOf::Tree(seen)) => Ok(before_place(seen, place)),
+        Some(ViewOf::Package(_)) => Ok(None),
+        Some(ViewOf::Prim) => Ok(None),
+        None => Ok(None),
+    }
+}
+
+/// The places of what the node at a place sees of the modules that it imports, of those that are done.
+fn seen_places(
+    alloc: Global,
+    plan: &Plan<'_>,
+    place: u32,
+    imports: &[ImportItem],
+) -> Result<Vec<usize>, NoMemory>
+    requires plan { IsPlanned (sorted_tree plan.now.input.now) plan.now.graph.now }
+    requires place { place < length plan.now.graph.now.order }
+    ensures { IfOk result (λ ps. ps.items ≡ steps_spec.import_places (spec.input_of (sorted_tree plan.now.input.now)) plan.now.graph.now.order place imports.now) }
+{
+    let mut places = Vec::new(alloc);
+    for import in imports {
+        if let Some(seen) = seen_place(alloc, plan, place, import)? {
+            places.push(seen)?;
+        }
+    }
+    Ok(places)
+}
 
 /// A list of this diagnostic alone.
 fn only(alloc: Global, diag: &Diag) -> Result<List<Diag>, NoMemory>
@@ -54,64 +150,60 @@ fn check_read(
 /// Checks a node without graph errors whose needs are sound, and keeps its result.
 fn build_checked(
     alloc: Global,
-    input: &PlainBuild,
-    places: &Places,
-    source: &Source<'_>,
+    plan: &Plan<'_>,
     place: u32,
-    reading: &SourceReading,
+    source: &Source<'_>,
+    header: &HeaderOf,
     done: &mut Done,
 ) -> Result<(), NoMemory>
-    requires standing { IsStanding (sorted_tree input.now) }
-    requires places { ArePlaces places.now (sorted_tree input.now).sources }
-    requires source { slice_get (sorted_tree input.now).sources place ≡ Some (source.now.node, source.now.bytes.now) }
-    requires done { IsDone (sorted_tree input.now) done.old place }
-    requires reading { reading.now ≡ spec.reading (sorted_tree input.now).settings source.now.node source.now.bytes.now }
-    requires found { missing_among (sorted_tree input.now) (imports_in reading.now) ≡ [] }
-    requires sound { steps_of.first_below places.now done.old.firsts.items source.now.node (imports_in reading.now) ≡ None }
-    ensures done { OnOk result (IsDone (sorted_tree input.now) done.new (place + 1)) }
-    ensures checked { OnOk result (is_checked (judged_next (sorted_tree input.now) (source.now.node, source.now.bytes.now) place).how ≡ 1) }
+    requires plan { IsPlanned (sorted_tree plan.now.input.now) plan.now.graph.now }
+    requires source { slice_get (ordered (sorted_tree plan.now.input.now)) place ≡ Some (source.now.node, source.now.bytes.now) }
+    requires header { header.now.header ≡ spec.header_at source.now.node source.now.bytes.now }
+    requires done { IsDone (sorted_tree plan.now.input.now) done.old place }
+    requires free { IsFree (sorted_tree plan.now.input.now) source.now.node place }
+    ensures done { OnOk result (IsDone (sorted_tree plan.now.input.now) done.new (place + 1)) }
+    ensures checked { OnOk result (is_checked (judged_next (sorted_tree plan.now.input.now) (source.now.node, source.now.bytes.now) place).how ≡ 1) }
 {
-    let unit = input.unit.text.as_slice();
     let node = &source.node;
+    let reading = read_node(alloc, node, source.bytes)?;
+    let imports = effective_imports(alloc, &header.header, plan.input.prelude)?;
+    let places = seen_places(alloc, plan, place, imports.as_slice())?;
+    let unit = plan.input.unit.text.as_slice();
     let name = node.module.text.as_slice();
-    let imports = import_places(alloc, places, imports_of(reading))?;
     let contents = done.contents.as_slice();
-    match check_read(alloc, unit, name, reading, contents, imports.as_slice())? {
+    match check_read(alloc, unit, name, &reading, contents, places.as_slice())? {
         Checked::Sound(content) => put_sound(alloc, done, unit, node, content),
-        Checked::Wrong(diags) => put_unsound(alloc, done, node, how_checked(alloc), diags, place),
+        Checked::Wrong(diags) => put_unsound(alloc, done, node, how_checked(alloc), diags),
     }
 }
 
 /// Builds the node at a place. A check counts one step.
 pub fn build_node<L: Ledger>(
     alloc: Global,
-    input: &PlainBuild,
-    places: &Places,
-    source: &Source<'_>,
+    plan: &Plan<'_>,
     place: u32,
+    source: &Source<'_>,
+    header: &HeaderOf,
     done: &mut Done,
     steps: &mut Steps<L>,
 ) -> Result<(), NoMemory>
-    requires standing { IsStanding (sorted_tree input.now) }
-    requires places { ArePlaces places.now (sorted_tree input.now).sources }
-    requires source { slice_get (sorted_tree input.now).sources place ≡ Some (source.now.node, source.now.bytes.now) }
-    requires done { IsDone (sorted_tree input.now) done.old place }
-    ensures done { OnOk result (IsDone (sorted_tree input.now) done.new (place + 1)) }
-    ensures checks { OnOk result (steps.new ≡ steps.old + is_checked (judged_next (sorted_tree input.now) (source.now.node, source.now.bytes.now) place).how) }
+    requires plan { IsPlanned (sorted_tree plan.now.input.now) plan.now.graph.now }
+    requires source { slice_get (ordered (sorted_tree plan.now.input.now)) place ≡ Some (source.now.node, source.now.bytes.now) }
+    requires header { header.now.header ≡ spec.header_at source.now.node source.now.bytes.now }
+    requires done { IsDone (sorted_tree plan.now.input.now) done.old place }
+    ensures done { OnOk result (IsDone (sorted_tree plan.now.input.now) done.new (place + 1)) }
+    ensures checks { OnOk result (steps.new ≡ steps.old + is_checked (judged_next (sorted_tree plan.now.input.now) (source.now.node, source.now.bytes.now) place).how) }
     ensures later { steps.old ≤ steps.new }
 {
-    let reading = read_node(alloc, input.prelude, &source.node, source.bytes)?;
-    let imports = imports_of(&reading);
-    let missing = missing_imports(alloc, places, imports)?;
-    let below = first_below(places, done.firsts.as_slice(), &source.node, imports);
-    if !missing.is_empty() {
-        let first = below.unwrap_or(place);
-        return put_unsound(alloc, done, &source.node, How::Graph, missing, first);
+    let node = &source.node;
+    let errors = told_errors(alloc, node, plan.graph.errors(NodeId(place)).as_slice())?;
+    if !errors.is_empty() {
+        return put_unsound(alloc, done, node, How::Graph, errors);
     }
-    if let Some(first) = below {
-        let how = How::Blocked(NodeId(first));
-        return put_unsound(alloc, done, &source.node, how, List::new(alloc), first);
+    let needs = plan.graph.needs(NodeId(place));
+    if let Some(need) = first_unsound(needs.as_slice(), done.sound.as_slice()) {
+        return put_unsound(alloc, done, node, How::Blocked(need), List::new(alloc));
     }
     steps.tick();
-    build_checked(alloc, input, places, source, place, &reading, done)
+    build_checked(alloc, plan, place, source, header, done)
 }

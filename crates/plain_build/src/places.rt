@@ -1,6 +1,6 @@
 //! Where a tree's nodes stand.
 ghost use Rattle.std.specs.Prelude.{◌≡◌, ℕ, Bool, List as Row, Some, IfOk, OnOk, if◌then◌else◌};
-ghost use Rattle.plain_build.specs.Plain.{node_named, same_node};
+ghost use Rattle.mod_graph.specs.Names.{node_named, same_node};
 ghost use Rattle.plain_build.specs.Steps.{ArePlaces, pairs, place_in};
 
 use crate::sources::Source;

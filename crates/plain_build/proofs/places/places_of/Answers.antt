@@ -2,9 +2,9 @@ use Rattle.std.proofs.Common.{◌≡◌, ◌+◌, ◌<◌, ℕ, List, ◌∷◌,
 use Rattle.std.proofs.lemmas.List.{map-append, take_all}
 use Rattle.mk_base.specs.declared.name.Node.{Node}
 use Rattle.plain_build.specs.declared.sources.Source.{Source}
-use Rattle.plain_build.specs.Plain.{node_named}
+use Rattle.mod_graph.specs.Names.{node_named}
 use Rattle.plain_build.specs.Steps.{IsPlace, pairs, place_in}
-use Rattle.plain_build.proofs.Loops.{place_next, front_next, pairs_count}
+use Rattle.plain_build.proofs.Placing.{place_next, front_next, pairs_count}
 use Rattle.plain_build.proofs.places.places_of.Goals as goal
 
 pub loop-place-preserved : goal.loop-place-preserved

@@ -3,7 +3,7 @@ use Rattle.std.specs.List.Sorted.{IsSortedBy}
 use Rattle.std.specs.Cmp.{IsStrictWeakOrder}
 use Rattle.std.proofs.lemmas.List.Sorted.{answers_always}
 use Rattle.plain_build.specs.declared.sources.Source.{Source}
-use Rattle.plain_build.specs.Plain.{less_node}
+use Rattle.mod_graph.specs.Names.{less_node}
 use Rattle.plain_build.proofs.Order.{less_weak}
 use Rattle.plain_build.proofs.Sorting.{sorted_sources}
 use Rattle.plain_build.proofs.sources.sort_sources.Goals as goal

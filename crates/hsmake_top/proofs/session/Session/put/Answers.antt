@@ -27,8 +27,8 @@ pub returns-in_ok-push-clause-kept : goal.returns-in_ok-push-clause-kept
 returns-in_ok-push-clause-kept c =
     let k = c.requires.kept in
     let h = put_kept c.args.path.now c.args.body.now c.in_ok-copy.field-0 c.args.self.now.places.keys c.insert_full.new.self.keys c.args.self.now.input.files c.push.new.self
-    (c.in_ok-copy.ensures ∙ c.in_ok-name.ensures) k.names c.in_ok-at.ensures.keys (pushed c) c.requires.path c.requires.body k.distinct k.small in
-    record { unit = k.unit; store = k.store; names = h.0; distinct = h.1; small = h.2 }
+    (c.in_ok-copy.ensures ∙ c.in_ok-name.ensures) k.names c.in_ok-at.ensures.keys (pushed c) c.requires.path k.distinct k.short in
+    record { unit = k.unit; store = k.store; names = h.0; distinct = h.1; short = h.2 }
 
 pub returns-in_ok-push-clause-files : goal.returns-in_ok-push-clause-files
 returns-in_ok-push-clause-files c = pushed c
@@ -37,8 +37,8 @@ pub returns-else-is_new-clause-kept : goal.returns-else-is_new-clause-kept
 returns-else-is_new-clause-kept c =
     let k = c.requires.kept in
     let h = put_kept c.args.path.now c.args.body.now c.in_ok-copy.field-0 c.args.self.now.places.keys c.insert_full.new.self.keys c.args.self.now.input.files c.replace_file.new.files
-    (c.in_ok-copy.ensures ∙ c.in_ok-name.ensures) k.names c.in_ok-at.ensures.keys (replaced c) c.requires.path c.requires.body k.distinct k.small in
-    record { unit = k.unit; store = k.store; names = h.0; distinct = h.1; small = h.2 }
+    (c.in_ok-copy.ensures ∙ c.in_ok-name.ensures) k.names c.in_ok-at.ensures.keys (replaced c) c.requires.path k.distinct k.short in
+    record { unit = k.unit; store = k.store; names = h.0; distinct = h.1; short = h.2 }
 
 pub returns-else-is_new-clause-files : goal.returns-else-is_new-clause-files
 returns-else-is_new-clause-files c = replaced c

@@ -23,8 +23,8 @@ pub returns-clause-kept : goal.returns-clause-kept
 returns-clause-kept c =
     let k = c.requires in
     let h = gone_kept c.args.path.now c.in_ok-name.name c.args.self.now.places.keys c.shift_remove_full.new.self.keys c.args.self.now.input.files c.remove_file.new.files
-    c.in_ok-name.ensures k.names c.in-Some.ensures.keys (without c) k.distinct k.small in
-    record { unit = k.unit; store = k.store; names = h.0; distinct = h.1; small = h.2 }
+    c.in_ok-name.ensures k.names c.in-Some.ensures.keys (without c) k.distinct k.short in
+    record { unit = k.unit; store = k.store; names = h.0; distinct = h.1; short = h.2 }
 
 pub returns-clause-files : goal.returns-clause-files
 returns-clause-files c = without c
