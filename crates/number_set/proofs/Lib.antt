@@ -1,3 +1,4 @@
 pub mod Words
 pub mod Booleans
 pub mod Absent
+pub mod Outside

@@ -3,10 +3,12 @@
 
 #[cfg(test)]
 mod tests;
+mod word;
 
-ghost use Rattle.std.specs.Prelude.{◌≡◌, ◌↔◌, true, IsTrue, IfSome, IfNone, ◌≤◌, ◌<◌, ◌||◌, ℕ, IfOk, nat_eq, false, length, ◌*◌};
+ghost use Rattle.std.specs.Prelude.{◌≡◌, ◌↔◌, true, IsTrue, IfSome, IfNone, ◌≤◌, ◌<◌, ◌||◌, ℕ, IfOk, nat_eq, false, ◌*◌, ◌+◌};
 ghost use Rattle.number_set.specs.Bits.{room, room_for, has};
 
+use crate::word::{below, next_bit};
 use mk_base::memory::NoMemory;
 use std::alloc::Global;
 use std::marker::Model;
@@ -92,35 +94,71 @@ impl NumberSet {
         true
     }
 
-    /// A number up to `bound`, a multiple of 64, below which the set has only what the other has.
-    fn shared_front(&self, other: &NumberSet, bound: usize) -> usize
-        requires room { room self.now ≡ room other.now }
-        requires bound { bound ≤ room self.now }
-        ensures bound { result ≤ bound }
-        ensures shared { (k : ℕ) → k < result → has self.now k ≡ true → has other.now k ≡ true }
+    /// The least number of the word `at`, from its place `low` on and below `bound`, that stands in this set and not in
+    /// the other.
+    fn outside_in(&self, other: &NumberSet, at: usize, low: usize, bound: usize) -> Option<usize>
+        requires mine { bound ≤ room self.now }
+        requires theirs { bound ≤ room other.now }
+        requires at { at * 64 < bound }
+        requires low { low < 64 }
+        ensures some { IfSome result (λ k. (at * 64 + low ≤ k) × (k < bound) × (has self.now k ≡ true) × (has other.now k ≡ false)) }
+        ensures least { IfSome result (λ k. (j : ℕ) → at * 64 + low ≤ j → j < k → has self.now j ≡ true → has other.now j ≡ true) }
+        ensures none { IfNone result ((j : ℕ) → at * 64 + low ≤ j → j < at * 64 + 64 → j < bound → has self.now j ≡ true → has other.now j ≡ true) }
     {
-        for i in 0..bound / 64 {
-            let mine = self.words[i];
-            let theirs = other.words[i];
-            if mine | theirs != theirs {
-                return i * 64;
-            }
+        let mine = self.words[at];
+        let theirs = other.words[at];
+        match next_bit(mine & !theirs, low) {
+            Some(place) => below(at * 64 + place, bound),
+            None => None,
         }
-        bound / 64 * 64
     }
 
-    /// The least number below `bound` that stands in this set and not in the other, of the same room; None where
-    /// there is none. What is in both is passed by a word of 64 at a time.
-    pub fn least_outside(&self, other: &NumberSet, bound: usize) -> Option<usize>
-        requires room { room self.now ≡ room other.now }
-        requires bound { bound ≤ room self.now }
-        ensures some { IfSome result (λ k. (k < bound) × (has self.now k ≡ true) × (has other.now k ≡ false)) }
-        ensures least { IfSome result (λ k. (j : ℕ) → j < k → has self.now j ≡ true → has other.now j ≡ true) }
-        ensures none { IfNone result ((k : ℕ) → k < bound → has self.now k ≡ true → has other.now k ≡ true) }
+    /// The least number below `bound` that stands in this set and not in the other, in the words from `start` on.
+    fn first_outside(&self, other: &NumberSet, start: usize, bound: usize) -> Option<usize>
+        requires mine { bound ≤ room self.now }
+        requires theirs { bound ≤ room other.now }
+        ensures some { IfSome result (λ k. (start * 64 ≤ k) × (k < bound) × (has self.now k ≡ true) × (has other.now k ≡ false)) }
+        ensures least { IfSome result (λ k. (j : ℕ) → start * 64 ≤ j → j < k → has self.now j ≡ true → has other.now j ≡ true) }
+        ensures none { IfNone result ((j : ℕ) → start * 64 ≤ j → j < bound → has self.now j ≡ true → has other.now j ≡ true) }
     {
-        for k in self.shared_front(other, bound)..bound {
-            if self.contains(k) && !other.contains(k) {
-                return Some(k);
+        for i in start..bound.div_ceil(64) {
+            if let Some(number) = self.outside_in(other, i, 0, bound) {
+                return Some(number);
+            }
+        }
+        None
+    }
+
+    /// The least number from `from` on and below `bound` that stands in this set and not in the other, where both have room for them;
+    /// None where there is none. A word of 64 numbers without one is passed by in one step.
+    pub fn next_outside(&self, other: &NumberSet, from: usize, bound: usize) -> Option<usize>
+        requires mine { bound ≤ room self.now }
+        requires theirs { bound ≤ room other.now }
+        ensures some { IfSome result (λ k. (from ≤ k) × (k < bound) × (has self.now k ≡ true) × (has other.now k ≡ false)) }
+        ensures least { IfSome result (λ k. (j : ℕ) → from ≤ j → j < k → has self.now j ≡ true → has other.now j ≡ true) }
+        ensures none { IfNone result ((j : ℕ) → from ≤ j → j < bound → has self.now j ≡ true → has other.now j ≡ true) }
+    {
+        if from >= bound {
+            return None;
+        }
+        match self.outside_in(other, from / 64, from % 64, bound) {
+            Some(number) => Some(number),
+            None => self.first_outside(other, from / 64 + 1, bound),
+        }
+    }
+
+    /// A number below `bound` that stands in this set and not in the other, where both have room for it, from the last word
+    /// of 64 numbers that has one; None where there is none.
+    pub fn late_outside(&self, other: &NumberSet, bound: usize) -> Option<usize>
+        requires mine { bound ≤ room self.now }
+        requires theirs { bound ≤ room other.now }
+        ensures some { IfSome result (λ k. (k < bound) × (has self.now k ≡ true) × (has other.now k ≡ false)) }
+        ensures none { IfNone result ((j : ℕ) → j < bound → has self.now j ≡ true → has other.now j ≡ true) }
+    {
+        let words = bound.div_ceil(64);
+        for turn in 0..words {
+            if let Some(number) = self.outside_in(other, words - 1 - turn, 0, bound) {
+                return Some(number);
             }
         }
         None

@@ -15,11 +15,14 @@ fn numbers_stand_in_sets(rt: HostRuntime) -> Result<(), Fail> {
     second.insert(5);
     second.insert(127);
     assert!(rt; first.is_within(&second) && !second.is_within(&first));
-    assert_eq!(rt; first.least_outside(&second, 130), None);
-    assert_eq!(rt; second.least_outside(&first, 130), Some(5));
-    first.insert(5);
-    assert_eq!(rt; second.least_outside(&first, 128), Some(127));
-    assert_eq!(rt; second.least_outside(&first, 127), None);
+    assert_eq!(rt; first.next_outside(&second, 0, 130), None);
+    assert_eq!(rt; second.next_outside(&first, 0, 130), Some(5));
+    assert_eq!(rt; second.next_outside(&first, 6, 128), Some(127));
+    assert_eq!(rt; second.next_outside(&first, 6, 127), None);
+    assert_eq!(rt; second.next_outside(&first, 200, 130), None);
+    assert_eq!(rt; second.late_outside(&first, 130), Some(127));
+    assert_eq!(rt; second.late_outside(&first, 127), Some(5));
+    assert_eq!(rt; second.late_outside(&first, 5), None);
     first.add_all(&second);
     assert!(rt; second.is_within(&first));
     Ok(())
