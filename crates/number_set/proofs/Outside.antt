@@ -1,5 +1,5 @@
 -- The numbers of a word that stand in one set and not in another.
-use Rattle.std.proofs.Common.{Option, Some, None, IfSome, IfNone, cond, nat_lt, tt, ◌≡◌, ◌≢◌, ◌⊎◌, ◌<◌, ◌≤◌, ◌+◌, ◌-◌, ◌*◌, ◌/◌, ◌%◌, ◌^◌, ℕ, zero, suc, true, false, List, inl, inr, get_or, length, nat_eq, min, arith, ap, sym, ◌∙◌, bit_and, subst, w64}
+use Rattle.std.proofs.Common.{Option, Some, None, IfSome, IfNone, cond, nat_lt, ◌≡◌, ◌≢◌, ◌⊎◌, ◌<◌, ◌≤◌, ◌+◌, ◌-◌, ◌*◌, ◌/◌, ◌%◌, ◌^◌, ℕ, zero, suc, true, false, List, inl, inr, get_or, length, nat_eq, min, arith, ap, sym, ◌∙◌, bit_and, subst, w64}
 use Rattle.std.specs.Int.{bit_at, bit_not, trailing_zeros}
 use Rattle.std.proofs.lemmas.Bool.{cases_lt}
 use Rattle.std.proofs.lemmas.Bool.Decides.{nat_tests}
