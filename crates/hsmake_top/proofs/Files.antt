@@ -1,5 +1,5 @@
 -- A file that is put among others.
-use Rattle.std.proofs.Common.{◌≡◌, ℕ, suc, ◌+◌, ◌<◌, ◌≤◌, Bool, true, false, true≢false, cond, not, ◌||◌, ◌&&◌, nat_eq, List, [], ◌∷◌, ◌++◌, length, set, refl, ap, sym, ◌∙◌, subst, arith}
+use Rattle.std.proofs.Common.{◌^◌, ◌≡◌, ℕ, suc, ◌+◌, ◌<◌, ◌≤◌, Bool, true, false, true≢false, cond, not, ◌||◌, ◌&&◌, nat_eq, List, [], ◌∷◌, ◌++◌, length, set, refl, ap, sym, ◌∙◌, subst, arith}
 use Rattle.std.specs.List.{AllByRecursion, list_any, position_or_len}
 use Rattle.std.proofs.lemmas.Bool.{eqb-true}
 use Rattle.std.specs.Cmp.Lexicographic.{nat_list_eq_equiv}
@@ -90,7 +90,7 @@ module _ (path body : List ℕ) where
       (λ y. subst P (sym y) (subst (λ n. AllByRecursion (λ (g : File). n ≡ g.name → ⊥) fs) (sym (exact path f.name y)) p.0, p.1))
       (λ n. subst P (sym n) (apart_put f fs (λ e. true≢false (sym (same_self path) ∙ ap (same_text path) (sym e) ∙ n)) p.0, put_distinct fs p.1))
 
-  pub put_short : (fs : List File) → length path ≤ 1048576 → AreShort fs → AreShort (put_file path body fs)
+  pub put_short : (fs : List File) → length path < 2 ^ 32 → AreShort fs → AreShort (put_file path body fs)
   put_short [] a p = (a, tt)
   put_short (f ∷ fs) a p =
       let P : Bool → Type 0 = λ c. AreShort (cond c (file path body ∷ fs) (f ∷ put_file path body fs)) in
@@ -130,7 +130,7 @@ module _ (path body value : List ℕ) (keys : List (List ℕ)) (fs gs : List Fil
 
 -- what is kept of the files once one is put
 pub put_kept : (path body value : List ℕ) (keys new_keys : List (List ℕ)) (fs gs : List File) → value ≡ path → keys ≡ names_of fs → new_keys ≡ insert_key same_text keys value → gs ≡ put_file path body fs
-    → length path ≤ 1048576 → AreDistinct fs → AreShort fs → (new_keys ≡ names_of gs) × AreDistinct gs × AreShort gs
+    → length path < 2 ^ 32 → AreDistinct fs → AreShort fs → (new_keys ≡ names_of gs) × AreDistinct gs × AreShort gs
 put_kept path body value keys new_keys fs gs v k n e a d s = (
   n ∙ ap (λ x. insert_key same_text keys x) v ∙ ap (λ ks. insert_key same_text ks path) k ∙ sym (put_names path body fs) ∙ ap names_of (sym e),
   subst AreDistinct (sym e) (put_distinct path body fs d),

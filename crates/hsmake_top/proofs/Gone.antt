@@ -1,5 +1,5 @@
 -- A file that is taken away from others.
-use Rattle.std.proofs.Common.{◌≡◌, ℕ, suc, ◌+◌, ◌<◌, ◌≤◌, Bool, true, false, true≢false, cond, not, ◌||◌, nat_lt, List, [], ◌∷◌, length, Some, None, refl, ap, sym, ◌∙◌, subst, arith}
+use Rattle.std.proofs.Common.{◌^◌, ◌≡◌, ℕ, suc, ◌+◌, ◌<◌, ◌≤◌, Bool, true, false, true≢false, cond, not, ◌||◌, nat_lt, List, [], ◌∷◌, length, Some, None, refl, ap, sym, ◌∙◌, subst, arith}
 use Rattle.std.specs.List.{AllByRecursion, list_any, position_or_len, remove}
 use Rattle.std.specs.Set.{remove_key}
 use Rattle.mk_io.specs.declared.file.File.{File}
@@ -81,7 +81,7 @@ pub gone_kept : (path value : List ℕ) (keys new_keys : List (List ℕ)) (fs gs
 gone_kept path value keys new_keys fs gs v k n e d s = (
   n ∙ ap (λ x. remove_key (same_text x) keys) v ∙ ap (λ ks. remove_key (same_text path) ks) k ∙ taken_names path fs d ∙ ap names_of (sym e),
   subst AreDistinct (sym e) (distinct_without path fs d),
-  subst AreShort (sym e) (all_without path (λ (f : File). length f.name ≤ 1048576) fs s),
+  subst AreShort (sym e) (all_without path (λ (f : File). length f.name < 2 ^ 32) fs s),
 )
 
 -- the place at which a key was found

@@ -117,7 +117,7 @@ impl Session {
     /// Puts a file where one of that name stands, or at the end.
     fn put(&mut self, alloc: Global, path: &[u8], body: &[u8]) -> Result<(), NoMemory>
         requires kept { IsKept self.old }
-        requires path { length path.now ≤ 1048576 }
+        requires path { length path.now < 2 ^ 32 }
         ensures kept { OnOk result (IsKept self.new) }
         ensures files { OnOk result (self.new.input.files ≡ put_file path.now body.now self.old.input.files) }
         ensures prelude { OnOk result (self.new.input.prelude ≡ self.old.input.prelude) }

@@ -1,5 +1,5 @@
 -- The build of one more node.
-use Rattle.std.proofs.Common.{◌≡◌, ℕ, zero, suc, ◌+◌, ◌<◌, ◌≤◌, Bool, true, false, ◌&&◌, not, List, [], ◌∷◌, ◌++◌, length, take, refl, ap, sym, ◌∙◌, subst, Some, None, arith, add-one, length-append}
+use Rattle.std.proofs.Common.{◌^◌, ◌≡◌, ℕ, zero, suc, ◌+◌, ◌<◌, ◌≤◌, Bool, true, false, ◌&&◌, not, List, [], ◌∷◌, ◌++◌, length, take, refl, ap, sym, ◌∙◌, subst, Some, None, arith, add-one, length-append}
 use Rattle.std.specs.Prelude.{slice_get, filter, nat_eq}
 use Rattle.std.specs.declared.option.Option.{Option}
 use Rattle.std.specs.Option.{option_map_or, option_map}
@@ -143,7 +143,7 @@ small_more : (b : ℕ) (r : SourceReading) → b ≤ 1048576 → AreSmall b b r 
 small_more b (Refused d) l h = tt
 small_more b (Whole w) l h = let n : weight w ≤ b = h.0 in (omega arith, all_map (IsShortItem b) (IsShortItem 1048576) w.datas (λ d s. short_more b d l s) h.1)
 
-sound_read : (unit m : List ℕ) (r : SourceReading) (cs : List Content) (c : Content) → checked.Sound c ≡ checked_of unit m r cs → length unit ≤ 64 → length m ≤ 1048576 → AllByRecursion (λ (c : Content). length c.module ≤ 1048576) cs
+sound_read : (unit m : List ℕ) (r : SourceReading) (cs : List Content) (c : Content) → checked.Sound c ≡ checked_of unit m r cs → length unit ≤ 64 → length m < 2 ^ 32 → AllByRecursion (λ (c : Content). length c.module < 2 ^ 32) cs
     → AreSmall 1048576 1048576 r → IsSound unit c × Fits unit c × (c.module ≡ m)
 sound_read unit m (Whole w) cs c e u v h small = sound_fits unit m w cs c (sym e) u v h small
 sound_read unit m (Refused d) cs c e u v h small = absurd (let h : ⊥ = cc in h)
@@ -169,7 +169,7 @@ module _ (t : PlainTree) (fine : IsStanding t) (n : ℕ) (a : Node × List ℕ) 
   apart : AreDistinct plain (ordered t)
   apart = ordered_apart t fine
 
-  short_name : length a.0.module.text ≤ 1048576
+  short_name : length a.0.module.text < 2 ^ 32
   short_name = all_at IsShortNode t.sources a (in_sources t a (in_at (ordered t) n a here)) fine.short
 
   spot : (k : ℕ) × (slice_get t.sources k ≡ Some a)
@@ -181,7 +181,7 @@ module _ (t : PlainTree) (fine : IsStanding t) (n : ℕ) (a : Node × List ℕ) 
 
   module _ (old : Done) (done : IsDone t old n) where
     -- the next node is done
-    done_next : (new : Done) (r : NodeResult) (c : Content) (b : Bool) (j : PlainJudged) → judged_next t a n ≡ j → IsResult t.settings.unit (nodes_of (ordered t)) r (a.0, j) → IsContent c j.outcome → length c.module ≤ 1048576
+    done_next : (new : Done) (r : NodeResult) (c : Content) (b : Bool) (j : PlainJudged) → judged_next t a n ≡ j → IsResult t.settings.unit (nodes_of (ordered t)) r (a.0, j) → IsContent c j.outcome → length c.module < 2 ^ 32
         → b ≡ is_sound j.outcome → new.results ≡ old.results ++ r ∷ [] → new.contents.items ≡ old.contents.items ++ c ∷ [] → new.sound.items ≡ old.sound.items ++ b ∷ [] → IsDone t new (n + 1)
     done_next new r c b j judged result content short kept rs cs bs =
         let e : judged_before t (n + 1) ≡ before ++ (a.0, j) ∷ [] = ap (judged_before t) (add-one n) ∙ before_next t n a here ∙ ap (λ (i : PlainJudged). before ++ (a.0, i) ∷ []) judged in
@@ -189,7 +189,7 @@ module _ (t : PlainTree) (fine : IsStanding t) (n : ℕ) (a : Node × List ℕ) 
           results = subst (λ rs. AreResults t.settings.unit (nodes_of (ordered t)) rs (judged_before t (n + 1))) (sym rs)
               (subst (λ js. AreResults t.settings.unit (nodes_of (ordered t)) (old.results ++ r ∷ []) js) (sym e) (results_more t.settings.unit (nodes_of (ordered t)) old.results before r (a.0, j) done.results result));
           contents = subst (λ xs. AreContents xs (judged_before t (n + 1))) (sym cs) (subst (λ js. AreContents (old.contents.items ++ c ∷ []) js) (sym e) (contents_more old.contents.items before c (a.0, j) done.contents content));
-          small = subst (λ xs. AllByRecursion (λ (c : Content). length c.module ≤ 1048576) xs) (sym cs) (all_last (λ (c : Content). length c.module ≤ 1048576) old.contents.items c done.small short);
+          small = subst (λ xs. AllByRecursion (λ (c : Content). length c.module < 2 ^ 32) xs) (sym cs) (all_last (λ (c : Content). length c.module < 2 ^ 32) old.contents.items c done.small short);
           sound = bs ∙ ap (λ (l : List Bool). l ++ b ∷ []) done.sound ∙ ap (λ (x : Bool). soundness before ++ x ∷ []) kept
               ∙ sym (map-append (λ (j : Node × PlainJudged). is_sound j.1.outcome) before ((a.0, j) ∷ [])) ∙ sym (ap soundness e);
         }
@@ -288,7 +288,7 @@ module _ (t : PlainTree) (fine : IsStanding t) (n : ℕ) (a : Node × List ℕ) 
 
       -- what a sound node offers has its interface
       pub has_interface : (c : Content) → checked.Sound c ≡ checked_of t.settings.unit a.0.module.text (reading a.0 a.1) given → IsSound t.settings.unit c × Fits t.settings.unit c × (c.module ≡ a.0.module.text)
-      has_interface c e = sound_read t.settings.unit a.0.module.text (reading a.0 a.1) given c e fine.unit short_name (short_at (λ (c : Content). length c.module ≤ 1048576) old.contents.items places done.small) small_read
+      has_interface c e = sound_read t.settings.unit a.0.module.text (reading a.0 a.1) given c e fine.unit short_name (short_at (λ (c : Content). length c.module < 2 ^ 32) old.contents.items places done.small) small_read
 
       pub next_sound : (new : Done) (c : Content) → checked.Sound c ≡ checked_of t.settings.unit a.0.module.text (reading a.0 a.1) given → HasSound t.settings.unit a.0 c old.results new.results
           → new.contents.items ≡ old.contents.items ++ c ∷ [] → new.sound.items ≡ old.sound.items ++ true ∷ [] → IsNext new 1
@@ -296,7 +296,7 @@ module _ (t : PlainTree) (fine : IsStanding t) (n : ℕ) (a : Node × List ℕ) 
           let j : PlainJudged = record { how = Checked NoInterface; outcome = Sound c } in
           let judged : judged_next t a n ≡ j = checked_next (checked.Sound c) e in (
             done_next new (result_of a.0 checked_how [] (Some rs.0)) c true j judged (refl, (refl, refl), (refl, rs.1)) refl
-                (subst (λ m. length m ≤ 1048576) (sym (has_interface c e).2) short_name) refl rs.2 cs bs,
+                (subst (λ m. length m < 2 ^ 32) (sym (has_interface c e).2) short_name) refl rs.2 cs bs,
             ap (λ (i : PlainJudged). is_checked i.how) judged,
           )
 

@@ -1,5 +1,5 @@
 -- A module without diagnostics is sound, and fits its interface.
-use Rattle.std.proofs.Common.{◌≡◌, ℕ, suc, ◌+◌, ◌*◌, ◌≤◌, Bool, true, false, ◌&&◌, List, [], ◌∷◌, ◌++◌, length, map, refl, ap, sym, subst, inl, inr, cond, arith, length-append}
+use Rattle.std.proofs.Common.{◌<◌, ◌^◌, ◌≡◌, ℕ, suc, ◌+◌, ◌*◌, ◌≤◌, Bool, true, false, ◌&&◌, List, [], ◌∷◌, ◌++◌, length, map, refl, ap, sym, subst, inl, inr, cond, arith, length-append}
 use Rattle.std.specs.List.{list_any, list_all, flat_map, filter, AllByRecursion}
 use Rattle.std.specs.Prelude.{codes}
 use Rattle.std.proofs.lemmas.List.Sums.{sum_by-cons}
@@ -91,7 +91,7 @@ sound_content unit m w cs none =
 
 -- what is short: a unit's name and a module's name
 abbrev IsShort : Name → Type 0
-IsShort n = (length n.unit.text ≤ 64) × (length n.module.text ≤ 1048576)
+IsShort n = (length n.unit.text ≤ 64) × (length n.module.text < 2 ^ 32)
 
 abbrev IsShortPair : Pair → Type 0
 IsShortPair p = IsShort p.entity
@@ -100,18 +100,18 @@ all_brought : (m : List ℕ) (es : List Name) → AllByRecursion IsShort es → 
 all_brought m [] h = tt
 all_brought m (e ∷ es) h = (h.0, (h.0, all_brought m es h.1))
 
-all_exports : (unit m : List ℕ) (hs : List (List ℕ × List ℕ)) → length unit ≤ 64 → length m ≤ 1048576 → AllByRecursion IsShort (exports_of unit m hs)
+all_exports : (unit m : List ℕ) (hs : List (List ℕ × List ℕ)) → length unit ≤ 64 → length m < 2 ^ 32 → AllByRecursion IsShort (exports_of unit m hs)
 all_exports unit m [] u v = tt
 all_exports unit m (h ∷ hs) u v = ((u, v), ((u, v), all_exports unit m hs u v))
 
-all_imported : (unit : List ℕ) (cs : List Content) → length unit ≤ 64 → AllByRecursion (λ (c : Content). length c.module ≤ 1048576) cs
+all_imported : (unit : List ℕ) (cs : List Content) → length unit ≤ 64 → AllByRecursion (λ (c : Content). length c.module < 2 ^ 32) cs
     → AllByRecursion IsShortPair (flat_map (λ (c : Content). brought c.module (exports_of unit c.module (content_heads c.datas))) cs)
 all_imported unit [] u h = tt
 all_imported unit (c ∷ cs) u h =
     all_join IsShortPair (brought c.module (exports_of unit c.module (content_heads c.datas))) (flat_map (λ (c : Content). brought c.module (exports_of unit c.module (content_heads c.datas))) cs)
     (all_brought c.module (exports_of unit c.module (content_heads c.datas)) (all_exports unit c.module (content_heads c.datas) u h.0)) (all_imported unit cs u h.1)
 
-all_scope : (unit m : List ℕ) (w : Written) (cs : List Content) → length unit ≤ 64 → length m ≤ 1048576 → AllByRecursion (λ (c : Content). length c.module ≤ 1048576) cs → AllByRecursion IsShortPair (scope unit m w cs)
+all_scope : (unit m : List ℕ) (w : Written) (cs : List Content) → length unit ≤ 64 → length m < 2 ^ 32 → AllByRecursion (λ (c : Content). length c.module < 2 ^ 32) cs → AllByRecursion IsShortPair (scope unit m w cs)
 all_scope unit m w cs u v h =
     all_join IsShortPair (brought m (exports_of unit m (heads w.datas))) (flat_map (λ (c : Content). brought c.module (exports_of unit c.module (content_heads c.datas))) cs)
     (all_brought m (exports_of unit m (heads w.datas)) (all_exports unit m (heads w.datas) u v)) (all_imported unit cs u h)
@@ -156,7 +156,7 @@ names_length pairs (f ∷ fs) =
     omega arith
 
 abbrev HasFits : Name → Type 0
-HasFits n = (length n.unit.text ≤ 64) × (length n.module.text ≤ 1048576) × (length n.occ.text ≤ 1048576)
+HasFits n = (length n.unit.text ≤ 64) × (length n.module.text < 2 ^ 32) × (length n.occ.text ≤ 1048576)
 
 named_fits : (f : List ℕ) → length f ≤ 1048576 → (es : List Name) → AllByRecursion (IsNamed f) es → AllByRecursion HasFits es
 named_fits f l [] h = tt
@@ -200,7 +200,7 @@ names_count unit m pairs (d ∷ ds) =
     let all : length (names_in unit (record { «module» = m; datas = map (resolved pairs) (d ∷ ds) })) ≡ suc (suc (length (fs ++ rest))) = refl in
     omega (arith, sum, all, both, n, k)
 
-fits_content : (unit m : List ℕ) (w : Written) (cs : List Content) → length unit ≤ 64 → length m ≤ 1048576 → AllByRecursion (λ (c : Content). length c.module ≤ 1048576) cs → IsSmall 1048576 1048576 w → Fits unit (content_of unit m w cs)
+fits_content : (unit m : List ℕ) (w : Written) (cs : List Content) → length unit ≤ 64 → length m < 2 ^ 32 → AllByRecursion (λ (c : Content). length c.module < 2 ^ 32) cs → IsSmall 1048576 1048576 w → Fits unit (content_of unit m w cs)
 fits_content unit m w cs u v h small =
     let pairs : List Pair = scope unit m w cs in
     let short = all_scope unit m w cs u v h in
@@ -217,7 +217,7 @@ fits_content unit m w cs u v h small =
     }
 
 -- a module that is checked without diagnostics
-pub sound_fits : (unit m : List ℕ) (w : Written) (cs : List Content) (c : Content) → check_of unit m w cs ≡ Sound c → length unit ≤ 64 → length m ≤ 1048576 → AllByRecursion (λ (c : Content). length c.module ≤ 1048576) cs → IsSmall 1048576 1048576 w
+pub sound_fits : (unit m : List ℕ) (w : Written) (cs : List Content) (c : Content) → check_of unit m w cs ≡ Sound c → length unit ≤ 64 → length m < 2 ^ 32 → AllByRecursion (λ (c : Content). length c.module < 2 ^ 32) cs → IsSmall 1048576 1048576 w
     → IsSound unit c × Fits unit c × (c.module ≡ m)
 sound_fits unit m w cs c e u v h small =
     let s = with_no_diags (content_of unit m w cs) c (scope_diags unit m w cs) e in

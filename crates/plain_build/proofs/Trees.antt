@@ -49,7 +49,7 @@ none_done t done rs cs bs = record {
   results = subst (λ xs. AreResults t.settings.unit (nodes_of (ordered t)) xs (judged_before t 0)) (sym rs)
       (subst (λ js. AreResults t.settings.unit (nodes_of (ordered t)) [] js) (sym (before_none t)) tt);
   contents = subst (λ xs. AreContents xs (judged_before t 0)) (sym cs) (subst (λ js. AreContents [] js) (sym (before_none t)) tt);
-  small = subst (AllByRecursion (λ (c : Content). length c.module ≤ 1048576)) (sym cs) tt;
+  small = subst (AllByRecursion (λ (c : Content). length c.module < 2 ^ 32)) (sym cs) tt;
   sound = bs ∙ sym (ap soundness (before_none t));
 }
 
@@ -108,7 +108,7 @@ source_count (f ∷ fs) =
     let both : length (source_at f (node_of f.name) ++ sources_of fs) ≡ length (source_at f (node_of f.name)) + length (sources_of fs) = length-append (source_at f (node_of f.name)) (sources_of fs) in
     omega (arith, rest, one, both)
 
-short_file : (f : File) (o : Option Node) → node_of f.name ≡ o → length f.name ≤ 1048576 → AllByRecursion IsShortNode (source_at f o)
+short_file : (f : File) (o : Option Node) → node_of f.name ≡ o → length f.name < 2 ^ 32 → AllByRecursion IsShortNode (source_at f o)
 short_file f None e h = tt
 short_file f (Some n) e h = ((let s : length n.module.text ≤ length f.name = short_node f.name n e in omega arith), tt)
 

@@ -43,7 +43,7 @@ AreRising [] = Unit {0}
 AreRising (q ∷ qs) = AllByRecursion (λ r. less_node q.0 r.0 ≡ true) qs × AreRising qs
 
 abbrev pub IsShortNode : Node × List ℕ → Type 0
-IsShortNode q = length q.0.module.text ≤ 1048576
+IsShortNode q = length q.0.module.text < 2 ^ 32
 
 -- A tree whose sources stand by node, with names of at most 1 MiB.
 pub record IsStanding (t : PlainTree) : Type 0 where
@@ -81,7 +81,7 @@ soundness js = map (λ (j : Node × PlainJudged). is_sound j.1.outcome) js
 pub record IsDone (t : PlainTree) (done : Done) (n : ℕ) : Type 0 where
   pub results : AreResults t.settings.unit (nodes_of (ordered t)) done.results (judged_before t n)
   pub contents : AreContents done.contents.items (judged_before t n)
-  pub small : AllByRecursion (λ (c : Content). length c.module ≤ 1048576) done.contents.items
+  pub small : AllByRecursion (λ (c : Content). length c.module < 2 ^ 32) done.contents.items
   pub sound : done.sound.items ≡ soundness (judged_before t n)
 
 -- the check of what was read, with the contents of the imports

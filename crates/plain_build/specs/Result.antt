@@ -1,5 +1,5 @@
 -- What a build of the plain language answers, and what it asks.
-use Rattle.std.specs.Prelude.{◌≡◌, ℕ, ◌+◌, ◌≤◌, Bool, true, ◌&&◌, ◌||◌, nat_le, nat_eq, List, [], ◌∷◌, length, map, slice_get, Some, None}
+use Rattle.std.specs.Prelude.{◌<◌, ◌^◌, ◌≡◌, ℕ, ◌+◌, ◌≤◌, Bool, true, ◌&&◌, ◌||◌, nat_le, nat_eq, List, [], ◌∷◌, length, map, slice_get, Some, None}
 use Rattle.std.specs.declared.option.Option.{Option}
 use Rattle.std.specs.List.{list_all, AllByRecursion}
 use Rattle.mk_base.specs.declared.name.Node.{Node}
@@ -34,7 +34,7 @@ AreDistinct (f ∷ fs) = AllByRecursion (λ (g : File). f.name ≡ g.name → �
 
 -- the names of the files have at most 1,048,576 bytes
 abbrev pub AreShort : List File → Type 0
-AreShort files = AllByRecursion (λ (f : File). length f.name ≤ 1048576) files
+AreShort files = AllByRecursion (λ (f : File). length f.name < 2 ^ 32) files
 
 abbrev pub tree_of : PlainBuild → PlainTree
 tree_of input = record { settings = record { unit = input.unit.text; prelude = input.prelude }; sources = sources_of input.files }

@@ -48,7 +48,7 @@ all_append : {X : Type 0} (P : X → Type 0) (xs ys : List X) → AllByRecursion
 all_append P [] ys h g = g
 all_append P (x ∷ xs) ys h g = (h.0, all_append P xs ys h.1 g)
 
-spoken_fit : (unit m : List ℕ) → length unit ≤ 64 → length m ≤ 1048576 → (ds : List DataDecl) → AllByRecursion DeclFits ds → AllByRecursion (λ (d : DataDecl). AllByRecursion NameFits d.fields) ds
+spoken_fit : (unit m : List ℕ) → length unit ≤ 64 → length m < 2 ^ 32 → (ds : List DataDecl) → AllByRecursion DeclFits ds → AllByRecursion (λ (d : DataDecl). AllByRecursion NameFits d.fields) ds
     → AllByRecursion NameFits (flat_map (λ (d : DataDecl). entity unit m Ty d.ty ∷ entity unit m Con d.con ∷ d.fields) ds)
 spoken_fit unit m u v [] h g = tt
 spoken_fit unit m u v (d ∷ ds) h g = ((u, v, h.0.0), ((u, v, h.0.1), all_append NameFits d.fields _ g.0 (spoken_fit unit m u v ds h.1 g.1)))

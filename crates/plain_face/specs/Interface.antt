@@ -1,5 +1,5 @@
 -- The plain interface of a module, by its one spelling.
-use Rattle.std.specs.Prelude.{◌≡◌, ◌↔◌, ℕ, ◌+◌, ◌≤◌, List, [], ◌∷◌, ◌++◌, length, Some, None}
+use Rattle.std.specs.Prelude.{◌<◌, ◌^◌, ◌≡◌, ◌↔◌, ℕ, ◌+◌, ◌≤◌, List, [], ◌∷◌, ◌++◌, length, Some, None}
 use Rattle.std.specs.declared.option.Option.{Option}
 use Rattle.std.specs.List.{flat_map, Contains, AllByRecursion, position_or_len}
 use Rattle.std.specs.List.Sorted.{IsPermutation}
@@ -86,8 +86,8 @@ pub record IsSound (unit : List ℕ) (c : Content) : Type 0 where
 -- What fits the interface: all texts and counts are far below 2 ^ 32.
 pub record Fits (unit : List ℕ) (c : Content) : Type 0 where
   pub unit_fits : length unit ≤ 64
-  pub module_fits : length c.module ≤ 1048576
+  pub module_fits : length c.module < 2 ^ 32
   pub count_fits : length c.datas ≤ 1048576
   pub types_fit : AllByRecursion (λ (d : DataDecl). (length d.ty ≤ 1048576) × (length d.con ≤ 1048576) × (length d.fields ≤ 1048576)) c.datas
-  pub names_fit : AllByRecursion (λ (d : DataDecl). AllByRecursion (λ (n : Name). (length n.unit.text ≤ 64) × (length n.module.text ≤ 1048576) × (length n.occ.text ≤ 1048576)) d.fields) c.datas
+  pub names_fit : AllByRecursion (λ (d : DataDecl). AllByRecursion (λ (n : Name). (length n.unit.text ≤ 64) × (length n.module.text < 2 ^ 32) × (length n.occ.text ≤ 1048576)) d.fields) c.datas
   pub all_fit : length (names_in unit c) ≤ 4194304

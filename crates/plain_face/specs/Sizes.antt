@@ -1,5 +1,5 @@
 -- What fits the parts of an interface.
-use Rattle.std.specs.Prelude.{◌≡◌, ℕ, ◌≤◌, List, ◌++◌, length}
+use Rattle.std.specs.Prelude.{◌<◌, ◌^◌, ◌≡◌, ℕ, ◌≤◌, List, ◌++◌, length}
 use Rattle.std.specs.declared.cmp.Ordering.TheVariants.{Less}
 use Rattle.mk_base.specs.Order.{name_cmp}
 use Rattle.mk_base.specs.declared.name.Name.{Name}
@@ -10,7 +10,7 @@ use Rattle.wire.specs.Wire.{num}
 use Rattle.mk_base.specs.declared.name.Space.TheVariants.{Ty}
 
 abbrev pub NameFits : Name → Type 0
-NameFits n = (length n.unit.text ≤ 64) × (length n.module.text ≤ 1048576) × (length n.occ.text ≤ 1048576)
+NameFits n = (length n.unit.text ≤ 64) × (length n.module.text < 2 ^ 32) × (length n.occ.text ≤ 1048576)
 
 abbrev pub DeclFits : DataDecl → Type 0
 DeclFits d = (length d.ty ≤ 1048576) × (length d.con ≤ 1048576) × (length d.fields ≤ 1048576)

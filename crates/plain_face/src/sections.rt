@@ -19,7 +19,7 @@ use wire::put::{put_num, put_text};
 /// Puts what an interface begins with: the magic bytes, version 0, the unit, the module, and that the source is no boot source.
 pub fn put_head(out: &mut List<u8>, unit: &[u8], module_name: &Text) -> Result<(), NoMemory>
     requires unit { length unit.now ≤ 64 }
-    requires module { length module_name.now ≤ 1048576 }
+    requires module { length module_name.now < 2 ^ 32 }
     ensures { OnOk result (out.new ≡ out.old ++ 72 ∷ 83 ∷ 70 ∷ 73 ∷ 0 ∷ (spelling.text unit.now ++ (spelling.text module_name.now ++ 0 ∷ []))) }
 {
     out.extend(b"HSFI\x00")?;
