@@ -1,4 +1,5 @@
 -- The graph of modules: its order, its loops, what each node needs and what is wrong with it, and what it sees of modules.
+-- That modules are compiled behind those that they import, and that a loop is broken by a boot file: GHC User's Guide, "Using ghc --make" and "Mutually recursive modules and hs-boot files". Which of a looped module's two nodes is seen is this project's own rule.
 use Rattle.std.specs.Prelude.{◌≡◌, ◌<◌, ℕ, Bool, true, false, ◌&&◌, ◌||◌, not, nat_eq, List, [], ◌∷◌, length, map, slice_get, Some, None, Option, unwrap_or, if◌then◌else◌}
 use Rattle.std.specs.List.{list_any, flat_map, AllByRecursion}
 use Rattle.std.specs.Option.{option_map_or}
