@@ -1,18 +1,18 @@
 -- One node more is listed.
-use Rattle.std.proofs.Common.{◌≡◌, ◌↔◌, ℕ, zero, suc, ◌+◌, ◌<◌, ◌≤◌, true, false, ◌||◌, List, [], ◌∷◌, ◌++◌, get_or, take, length, nat_eq, refl, ap, sym, ◌∙◌, subst, inl, inr, arith}
+use Rattle.std.proofs.Common.{◌≡◌, ◌⊎◌, ◌↔◌, ℕ, zero, suc, ◌+◌, ◌<◌, ◌≤◌, true, false, ◌||◌, List, [], ◌∷◌, ◌++◌, get_or, take, length, nat_eq, refl, ap, sym, ◌∙◌, subst, inl, inr, arith}
 use Rattle.std.specs.List.{Contains}
 use Rattle.std.proofs.Math.Seq.{get_or-append_seam}
 use Rattle.std.proofs.lemmas.List.{get_or_append_left}
-use Rattle.std.proofs.lemmas.Bool.{cases_lt}
+use Rattle.std.proofs.lemmas.Bool.{cases_eq, cases_lt}
 use Rattle.std.proofs.lemmas.List.Elements.{Contains-append_left, Contains-append_cases}
 use Rattle.number_set.specs.Bits.{has}
-use Rattle.number_set.proofs.Booleans.{split_or, or_right, is_same, from_test}
+use Rattle.number_set.proofs.Booleans.{both_ways, split_or, or_right, not_true, is_same, is_other, from_test}
 use Rattle.node_reach.proofs.Searches.{contains_last, Contains-one}
-use Rattle.node_reach.specs.Edges.{Relates}
-use Rattle.node_order.specs.Counts.{left, fewer}
-use Rattle.node_order.specs.Order.{IsNext, IsReady}
-use Rattle.node_order.proofs.Counts.{from_none, to_none, left_next}
-use Rattle.node_order.proofs.OrderLaws.{Next, next_alike}
+use Rattle.node_reach.specs.Edges.{HasEdge, Relates}
+use Rattle.node_order.specs.Order.{IsIdle, IsNext, IsReady}
+use Rattle.node_order.specs.Waiting.{IsReadyNow, IsPlaced, IsMore}
+use Rattle.node_order.proofs.OrderLaws.{Next}
+use Rattle.node_order.proofs.WaitingLists.{still_placed}
 
 -- one more is listed
 pub listed_next : (r s os ps : List ℕ) (x : ℕ) → ((k : ℕ) → has s k ≡ (nat_eq k x || has r k)) → ps ≡ os ++ x ∷ [] → ((k : ℕ) → (has r k ≡ true) ↔ Contains os k) → (k : ℕ) → (has s k ≡ true) ↔ Contains ps k
@@ -50,29 +50,78 @@ nexts Needs n turn x os ps len push before here i h = elim (cases_lt i turn) [
       subst (λ (l : List ℕ). Next Needs n l (get_or ps i 0)) (sym front) (subst (λ z. Next Needs n os z) (sym at) here)
 ]
 
--- the counts say who is ready
-ready_alike : (needs : List (List ℕ)) (n : ℕ) (counts listed os : List ℕ) → ((x : ℕ) → x < n → get_or counts x 0 ≡ left (get_or needs x []) listed x n) → ((k : ℕ) → (has listed k ≡ true) ↔ Contains os k)
-    → (k : ℕ) → k < n → (get_or counts k 0 ≡ 0) ↔ IsReady (Relates needs) n (Contains os) k
-ready_alike needs n counts listed os count same k lk = (
-  (λ e z lz need other. (same z).0 (from_none (get_or needs k []) listed k n (sym (count k lk) ∙ e) z lz need other)),
-  (λ r. count k lk ∙ to_none (get_or needs k []) listed k n (λ z lz p o. (same z).1 (r z lz p o))),
-)
+-- the set and the lists say which unlisted nodes are ready
+module _ (needs : List (List ℕ)) (n : ℕ) (listed ready : List ℕ) (waiting : List (List ℕ)) (is : (x : ℕ) → has ready x ≡ true → IsReadyNow needs n listed x) (placed : (x : ℕ) → x < n → has listed x ≡ false → IsPlaced needs n listed ready waiting x) where
+  in_set : (x : ℕ) → x < n → has listed x ≡ false → IsReadyNow needs n listed x → has ready x ≡ true
+  in_set x lt out now = elim (placed x lt out) [
+    | inl there ↦ there
+    | inr waits ↦ let left = waits.1 in let p : has listed waits.0 ≡ true = now waits.0 left.node left.need left.other in let q = left.out in let e : true ≡ false = sym p ∙ q in cc
+  ]
 
-pub chosen : (needs : List (List ℕ)) (n : ℕ) (counts seen listed os : List ℕ) → seen ≡ counts → length counts ≡ n → ((x : ℕ) → x < n → get_or counts x 0 ≡ left (get_or needs x []) listed x n) → ((k : ℕ) → (has listed k ≡ true) ↔ Contains os k)
-    → (x : ℕ) → IsNext (λ k. get_or seen k 0 ≡ 0) (λ k. has listed k ≡ true) (length seen) x → Next (Relates needs) n os x
-chosen needs n counts seen listed os is len count same x p =
-    let q : IsNext (λ k. get_or counts k 0 ≡ 0) (λ k. has listed k ≡ true) (length counts) x = subst (λ (l : List ℕ). IsNext (λ k. get_or l k 0 ≡ 0) (λ k. has listed k ≡ true) (length l) x) is p in
-    let r : IsNext (λ k. get_or counts k 0 ≡ 0) (λ k. has listed k ≡ true) n x = subst (λ m. IsNext (λ k. get_or counts k 0 ≡ 0) (λ k. has listed k ≡ true) m x) len q in
-    next_alike n (λ k. get_or counts k 0 ≡ 0) (IsReady (Relates needs) n (Contains os)) (λ k. has listed k ≡ true) (Contains os) (ready_alike needs n counts listed os count same) same x r
+  module _ (os : List ℕ) (same : (k : ℕ) → (has listed k ≡ true) ↔ Contains os k) where
+    ready_alike : (x : ℕ) → x < n → has listed x ≡ false → (has ready x ≡ true) ↔ IsReady (Relates needs) n (Contains os) x
+    ready_alike x lt out = (
+      (λ p z lz need other. (same z).0 (is x p z lz need other)),
+      (λ r. in_set x lt out (λ z lz need other. (same z).1 (r z lz need other))),
+    )
 
--- the counts after a node is listed
-module _ (needs : List (List ℕ)) (n : ℕ) (listed after old : List ℕ) (y : ℕ) (step : (k : ℕ) → has after k ≡ (nat_eq k y || has listed k)) (lt : y < n) (out : has listed y ≡ false)
-    (count : (x : ℕ) → x < n → get_or old x 0 ≡ left (get_or needs x []) listed x n) where
-  pub some_left : (x : ℕ) → x < n → fewer (get_or needs x []) x y ≤ get_or old x 0
-  some_left x lx = let e = count x lx in let d = left_next (get_or needs x []) listed after x y step n lt out in omega arith
+    still_idle : (x : ℕ) → x < n → IsIdle (λ k. has ready k ≡ true) (λ k. has listed k ≡ true) x → IsIdle (IsReady (Relates needs) n (Contains os)) (Contains os) x
+    still_idle x lt idle = both_ways (has listed x)
+        (λ p. inl ((same x).0 p))
+        (λ out. elim idle [
+          | inl p ↦ inl ((same x).0 p)
+          | inr not_there ↦ inr (λ r. not_there ((ready_alike x lt out).1 r))
+        ])
 
-  pub counts_next : (new : List ℕ) → ((x : ℕ) → x < n → get_or new x 0 + fewer (get_or needs x []) x y ≡ get_or old x 0) → (x : ℕ) → x < n → get_or new x 0 ≡ left (get_or needs x []) after x n
-  counts_next new down x lx = let e = count x lx in let d = left_next (get_or needs x []) listed after x y step n lt out in let f = down x lx in omega arith
+    pub chosen : (x : ℕ) → IsNext (λ k. has ready k ≡ true) (λ k. has listed k ≡ true) n x → Next (Relates needs) n os x
+    chosen x p = record {
+      node = p.node;
+      new = λ m. p.new ((same x).1 m);
+      least = elim p.least [
+        | inl q ↦ inl ((ready_alike x p.node (not_true (has listed x) p.new)).0 q.0, (λ y lt. let lx = p.node in still_idle y (omega arith) (q.1 y lt)))
+        | inr q ↦ inr ((λ y lt. still_idle y lt (q.0 y lt)), (λ y lt. (same y).0 (q.1 y lt)))
+      ];
+    }
+
+-- a node y is listed, and then those that wait for it are put again
+module _ (needs : List (List ℕ)) (n : ℕ) (listed after : List ℕ) (y : ℕ) (step : (k : ℕ) → has after k ≡ (nat_eq k y || has listed k)) where
+  still_listed : (k : ℕ) → has listed k ≡ true → has after k ≡ true
+  still_listed k p = step k ∙ or_right (nat_eq k y) (has listed k) p
+
+  was_out : (k : ℕ) → has after k ≡ false → has listed k ≡ false
+  was_out k p = not_true (has listed k) (λ q. let e : false ≡ true = sym p ∙ still_listed k q in cc)
+
+  still_ready : (x : ℕ) → IsReadyNow needs n listed x → IsReadyNow needs n after x
+  still_ready x r = λ z lz need other. still_listed z (r z lz need other)
+
+  -- who is placed is so still, or waits for y
+  placed_or_waits : (ready : List ℕ) (waiting : List (List ℕ)) (x : ℕ) → IsPlaced needs n listed ready waiting x → IsPlaced needs n after ready waiting x ⊎ HasEdge waiting y x
+  placed_or_waits ready waiting x (inl p) = inl (inl p)
+  placed_or_waits ready waiting x (inr w) = elim (cases_eq w.0 y) [
+    | inl same ↦ inr (subst (λ z. HasEdge waiting z x) same w.2)
+    | inr other ↦
+        let out : has after w.0 ≡ false = step w.0 ∙ ap (λ b. b || has listed w.0) (is_other w.0 y other) ∙ w.1.out in
+        inl (inr (w.0, record { node = w.1.node; need = w.1.need; other = w.1.other; out = out }, w.2))
+  ]
+
+  module _ (ready now : List ℕ) (waiting new : List (List ℕ)) (more : IsMore needs n after ready waiting now new) where
+    pub ready_next : ((x : ℕ) → has ready x ≡ true → IsReadyNow needs n listed x) → (x : ℕ) → has now x ≡ true → IsReadyNow needs n after x
+    ready_next is x p = elim (more.sound x p) [
+      | inl was ↦ still_ready x (is x was)
+      | inr r ↦ r
+    ]
+
+    pub range_next : ((z x : ℕ) → HasEdge waiting z x → x < n) → (z x : ℕ) → HasEdge new z x → x < n
+    range_next range z x e = elim (more.range z x e) [
+      | inl was ↦ range z x was
+      | inr lt ↦ lt
+    ]
+
+    pub placed_next : ((x : ℕ) → HasEdge waiting y x → IsPlaced needs n after now new x) → ((x : ℕ) → x < n → has listed x ≡ false → IsPlaced needs n listed ready waiting x) → (x : ℕ) → x < n → has after x ≡ false → IsPlaced needs n after now new x
+    placed_next again placed x lt out = elim (placed_or_waits ready waiting x (placed x lt (was_out x out))) [
+      | inl p ↦ still_placed needs n after ready now waiting new more x p
+      | inr waits ↦ again x waits
+    ]
 
 -- a list that is written back whole
 pub whole : {X : Type 0} (n : ℕ) (xs ys : List X) → length xs ≡ n → take n (xs ++ ys) ≡ xs

@@ -1,4 +1,4 @@
 pub mod Needs
 pub mod Away
-pub mod Counts
 pub mod Order
+pub mod Waiting

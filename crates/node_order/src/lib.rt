@@ -6,3 +6,4 @@ pub mod order;
 pub mod steps;
 #[cfg(test)]
 mod tests;
+mod waiting;

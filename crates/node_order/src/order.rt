@@ -1,98 +1,54 @@
 //! The order of the nodes by what each needs.
 
-ghost use Rattle.std.specs.Prelude.{◌≡◌, ◌⊎◌, ◌<◌, ◌≤◌, ◌↔◌, ◌+◌, ℕ, List, [], true, false, IfOk, IfSome, IfNone, get_or, take, length};
+ghost use Rattle.std.specs.Prelude.{◌≡◌, ◌⊎◌, ◌<◌, ◌≤◌, ◌↔◌, ℕ, List, true, false, IfOk, get_or, take, length};
 ghost use Rattle.std.specs.List.{All, Contains};
 ghost use Rattle.number_set.specs.Bits.{has, room, room_for};
 ghost use Rattle.node_reach.specs.Edges.{Relates};
-ghost use Rattle.node_order.specs.Counts.{left, fewer};
 ghost use Rattle.node_order.specs.Order.{IsReady, IsIdle, IsNext, IsOrder, IsFree};
 
+use crate::waiting::{first_waiting, put_again};
 use mk_base::memory::NoMemory;
 use number_set::NumberSet;
 use std::alloc::Global;
 
-/// How many nodes a node needs besides itself, of those below a count.
-fn needs_beside(row: &NumberSet, node: usize, count: usize) -> usize
-    requires { count ≤ room row.now }
-    ensures { result ≡ left row.now [] node count }
+/// The set of all nodes below a count. NoMemory where memory runs out.
+fn all_nodes(alloc: Global, count: usize) -> Result<NumberSet, NoMemory>
+    ensures room { IfOk result (λ s. room s ≡ room_for count) }
+    ensures all { IfOk result (λ s. (x : ℕ) → x < count → has s x ≡ true) }
 {
-    let mut beside = 0;
-    for k in 0..count {
-        if row.contains(k) && k != node {
-            beside += 1;
-        }
+    let mut all = NumberSet::empty(alloc, count)?;
+    for node in 0..count {
+        all.insert(node);
     }
-    beside
+    Ok(all)
 }
 
-/// How many nodes each node needs besides itself.
-fn counts_of(alloc: Global, needs: &[NumberSet]) -> Result<Vec<usize>, NoMemory>
-    requires { All (λ row. length needs.now ≤ room row) needs.now }
-    ensures len { IfOk result (λ v. length v.items ≡ length needs.now) }
-    ensures counts { IfOk result (λ v. (x : ℕ) → x < length needs.now → get_or v.items x 0 ≡ left (get_or needs.now x []) [] x (length needs.now)) }
-{
-    let mut counts = Vec::new(alloc);
-    for x in 0..needs.len() {
-        counts.push(needs_beside(&needs[x], x, needs.len()))?;
-    }
-    Ok(counts)
-}
-
-/// A node is listed: each other node that needs it has one unlisted need less.
-fn count_down(needs: &[NumberSet], node: usize, counts: &mut [usize])
-    requires room { All (λ row. length needs.now ≤ room row) needs.now }
-    requires len { length counts.old ≡ length needs.now }
-    requires node { node < length needs.now }
-    requires some { (x : ℕ) → x < length needs.now → fewer (get_or needs.now x []) x node ≤ get_or counts.old x 0 }
-    ensures len { length counts.new ≡ length counts.old }
-    ensures counts { (x : ℕ) → x < length needs.now → get_or counts.new x 0 + fewer (get_or needs.now x []) x node ≡ get_or counts.old x 0 }
-{
-    for x in 0..counts.len() {
-        if needs[x].contains(node) && node != x {
-            counts[x] -= 1;
-        }
-    }
-}
-
-/// The least unlisted node all of whose needs are listed: those with none left.
-fn least_ready(counts: &[usize], listed: &NumberSet) -> Option<usize>
-    requires { length counts.now ≤ room listed.now }
-    ensures some { IfSome result (λ x. (x < length counts.now) × (has listed.now x ≡ false) × (get_or counts.now x 0 ≡ 0) × ((y : ℕ) → y < x → IsIdle (λ k. get_or counts.now k 0 ≡ 0) (λ k. has listed.now k ≡ true) y)) }
-    ensures none { IfNone result ((y : ℕ) → y < length counts.now → IsIdle (λ k. get_or counts.now k 0 ≡ 0) (λ k. has listed.now k ≡ true) y) }
-{
-    for x in 0..counts.len() {
-        if counts[x] == 0 && !listed.contains(x) {
-            return Some(x);
-        }
-    }
-    None
-}
-
-/// The least unlisted node.
-fn least_left(count: usize, listed: &NumberSet) -> usize
-    requires nodes { count ≤ room listed.now }
+/// The least unlisted node, from the set of all nodes.
+fn least_left(all: &NumberSet, listed: &NumberSet, count: usize) -> usize
+    requires all { (x : ℕ) → x < count → has all.now x ≡ true }
+    requires room { (count ≤ room all.now) × (count ≤ room listed.now) }
     requires left { (x : ℕ) × (x < count) × (has listed.now x ≡ false) }
     ensures node { result < count }
     ensures new { has listed.now result ≡ false }
     ensures least { (y : ℕ) → y < result → has listed.now y ≡ true }
 {
-    for x in 0..count {
-        if !listed.contains(x) {
-            return x;
-        }
+    match all.next_outside(listed, 0, count) {
+        Some(least) => least,
+        None => unreachable!(),
     }
-    unreachable!()
 }
 
-/// The node that comes next, where some node is unlisted.
-fn next_node(counts: &[usize], listed: &NumberSet) -> usize
-    requires nodes { length counts.now ≤ room listed.now }
-    requires left { (x : ℕ) × (x < length counts.now) × (has listed.now x ≡ false) }
-    ensures { IsNext (λ k. get_or counts.now k 0 ≡ 0) (λ k. has listed.now k ≡ true) (length counts.now) result }
+/// The node that comes next, where some node is unlisted: the least unlisted one of those that are ready, and where there
+/// is none the least unlisted one.
+fn next_node(all: &NumberSet, ready: &NumberSet, listed: &NumberSet, count: usize) -> usize
+    requires all { (x : ℕ) → x < count → has all.now x ≡ true }
+    requires room { (count ≤ room all.now) × (count ≤ room ready.now) × (count ≤ room listed.now) }
+    requires left { (x : ℕ) × (x < count) × (has listed.now x ≡ false) }
+    ensures { IsNext (λ k. has ready.now k ≡ true) (λ k. has listed.now k ≡ true) count result }
 {
-    match least_ready(counts, listed) {
-        Some(x) => x,
-        None => least_left(counts.len(), listed),
+    match ready.next_outside(listed, 0, count) {
+        Some(node) => node,
+        None => least_left(all, listed, count),
     }
 }
 
@@ -104,15 +60,24 @@ pub fn order_of(alloc: Global, needs: &[NumberSet]) -> Result<Vec<usize>, NoMemo
     ensures order { IfOk result (λ os. IsOrder (Relates needs.now) (length needs.now) os.items) }
     ensures all { IfOk result (λ os. (x : ℕ) → x < length needs.now → Contains os.items x) }
 {
-    let mut counts = counts_of(alloc, needs)?;
-    let mut listed = NumberSet::empty(alloc, needs.len())?;
+    let count = needs.len();
+    let all = all_nodes(alloc, count)?;
+    let mut listed = NumberSet::empty(alloc, count)?;
+    let mut ready = NumberSet::empty(alloc, count)?;
+    let mut waiting = first_waiting(alloc, needs, &listed, &mut ready)?;
     let mut order = Vec::new(alloc);
-    for turn in 0..needs.len() {
-        let _ = turn;
-        let x = next_node(&counts, &listed);
-        order.push(x)?;
-        listed.insert(x);
-        count_down(needs, x, &mut counts);
+    for turn in 0..count {
+        let node = next_node(&all, &ready, &listed, count);
+        order.push(node)?;
+        listed.insert(node);
+        put_again(
+            needs,
+            node,
+            &listed,
+            turn % 2 == 0,
+            &mut ready,
+            &mut waiting,
+        )?;
     }
     Ok(order)
 }

@@ -1,77 +1,82 @@
-use Rattle.std.proofs.Common.{◌≡◌, ◌<◌, ◌≤◌, ℕ, List, [], true, false, length, arith, rules, ap, sym, ◌∙◌, subst, get_or, drop, ◌+◌}
+use Rattle.std.proofs.Common.{◌≡◌, ◌<◌, ℕ, List, Vec, true, false, length, arith, rules, ap, sym, ◌∙◌, subst, drop, ◌||◌, refl}
+use Rattle.std.specs.Global.{Global}
 use Rattle.number_set.specs.Bits.{has, absent}
-use Rattle.number_set.proofs.Booleans.{not_true}
+use Rattle.number_set.proofs.Booleans.{not_true, is_same}
 use Rattle.number_set.proofs.Absent.{none_there, some_absent, one_less}
-use Rattle.number_set.proofs.Words.{none_has}
-use Rattle.node_reach.specs.Edges.{Relates}
-use Rattle.node_order.specs.Counts.{left, fewer}
-use Rattle.node_order.proofs.Counts.{left_alike}
-use Rattle.node_order.proofs.Listing.{whole, listed_next, nexts, chosen, some_left, counts_next}
+use Rattle.node_reach.specs.Edges.{lists, HasEdge, Relates}
+use Rattle.node_order.specs.Waiting.{IsPlaced, IsMore}
+use Rattle.node_order.proofs.Listing.{whole, listed_next, nexts, chosen, ready_next, range_next, placed_next}
 use Rattle.node_order.proofs.Ranks.{none_absent}
 use Rattle.node_order.proofs.order.order_of.Goals as goal
 
 pub loop-turn-init : goal.loop-turn-init
 loop-turn-init c =
     let n = length c.args.needs.now in
+    let first = c.in_ok-waiting.ensures in
+    let none : length c.new-order.result.items ≡ 0 = ap (λ (l : List ℕ). length l) c.new-order.ensures.items in
     record {
-      room = c.in_ok-listed.ensures.room;
-      len = ap (λ (l : List ℕ). length l) c.new-order.ensures.items;
+      listed_room = c.in_ok-listed.ensures.room;
+      len = none;
       unlisted = let e = none_there c.in_ok-listed.listed n c.in_ok-listed.ensures.none in omega arith;
       same = λ k. (
         (λ h. let e : false ≡ true = sym (c.in_ok-listed.ensures.none k) ∙ h in cc),
-        (λ h. let lt = h.1 in let e = ap (λ (l : List ℕ). length l) c.new-order.ensures.items in absurd (omega arith)),
+        (λ h. let lt = h.1 in absurd (omega arith)),
       );
       next = λ i h. absurd (omega arith);
-      counts_len = c.in_ok-counts.ensures.len;
-      counts = λ x lx. c.in_ok-counts.ensures.counts x lx ∙ left_alike (get_or c.args.needs.now x []) [] c.in_ok-listed.listed x n (λ k. none_has 0 k ∙ sym (c.in_ok-listed.ensures.none k));
+      ready_room = first.room ∙ c.in_ok-ready.ensures.room;
+      waiting_len = first.len;
+      ready = first.ready;
+      range = first.range;
+      placed = λ x lt out. first.placed x lt;
     }
 
-pub next_node-x-requires-clause-left : goal.next_node-x-requires-clause-left
-next_node-x-requires-clause-left c =
-    let inv = c.loop-turn.invariant in
-    let unlisted = inv.unlisted in
-    let s = some_absent c.loop-turn.listed (length c.args.needs.now) (omega arith) in
-    let e : length c.deref.result.now ≡ length c.args.needs.now = ap (λ (l : List ℕ). length l) c.deref.ensures.value ∙ inv.counts_len in
-    let lt = s.1 in
-    (s.0, (omega arith), s.2)
+pub next_node-node-requires-clause-left : goal.next_node-node-requires-clause-left
+next_node-node-requires-clause-left c =
+    let unlisted = c.loop-turn.invariant.unlisted in
+    some_absent c.loop-turn.listed (length c.args.needs.now) (omega arith)
 
-pub count_down-requires-clause-some : goal.count_down-requires-clause-some
-count_down-requires-clause-some c =
-    let inv = c.loop-turn.invariant in
-    let n = length c.args.needs.now in
-    let e : length c.deref.result.now ≡ n = ap (λ (l : List ℕ). length l) c.deref.ensures.value ∙ inv.counts_len in
-    let next = c.next_node-x.ensures in
-    let out = not_true (has c.loop-turn.listed c.next_node-x.result) next.new in
-    let lt : c.next_node-x.result < n = (let node = next.node in omega arith) in
-    subst (λ (l : List ℕ). (x : ℕ) → x < n → fewer (get_or c.args.needs.now x []) x c.next_node-x.result ≤ get_or l x 0) (sym c.deref_mut.ensures.value) (some_left c.args.needs.now n c.loop-turn.listed c.insert.new.self c.loop-turn.counts.items c.next_node-x.result c.insert.ensures.has lt out inv.counts)
+pub put_again-requires-clause-node : goal.put_again-requires-clause-node
+put_again-requires-clause-node c =
+    let node = c.next_node-node.result in
+    (c.next_node-node.ensures.node, c.insert.ensures.has node ∙ ap (λ b. b || has c.loop-turn.listed node) (is_same node node refl))
+
+pub put_again-requires-clause-range : goal.put_again-requires-clause-range
+put_again-requires-clause-range c = λ x e. c.loop-turn.invariant.range c.next_node-node.result x (subst (λ (g : List (Vec ℕ Global)). HasEdge (lists g) c.next_node-node.result x) c.deref_mut.ensures.value e)
 
 pub loop-turn-preserved : goal.loop-turn-preserved
 loop-turn-preserved c =
     let inv = c.loop-turn.invariant in
-    let n = length c.args.needs.now in
-    let next = c.next_node-x.ensures in
+    let needs = c.args.needs.now in
+    let n = length needs in
+    let node = c.next_node-node.result in
+    let next = c.next_node-node.ensures in
+    let was = c.loop-turn.listed in
+    let listed = c.insert.new.self in
     let step = c.insert.ensures.has in
     let push = c.in_ok-push.ensures.items in
-    let e : length c.deref.result.now ≡ n = ap (λ (l : List ℕ). length l) c.deref.ensures.value ∙ inv.counts_len in
-    let out = not_true (has c.loop-turn.listed c.next_node-x.result) next.new in
-    let lt : c.next_node-x.result < n = (let node = next.node in omega arith) in
-    let counts = c.loop-turn.counts in
-    let new = c.count_down.new.counts in
-    let back = whole counts.len new (drop (length new) counts.items) (search rules) in
-    let down = subst (λ (l : List ℕ). (x : ℕ) → x < n → get_or new x 0 + fewer (get_or c.args.needs.now x []) x c.next_node-x.result ≡ get_or l x 0) c.deref_mut.ensures.value c.count_down.ensures.counts in
+    let put = c.in_ok-put_again.ensures in
+    let ready = c.loop-turn.ready in
+    let now = c.put_again.new.ready in
+    let waiting = c.loop-turn.waiting in
+    let new = c.put_again.new.waiting in
+    let value = c.deref_mut.ensures.value in
+    let back = whole waiting.len new (drop (length new) waiting.items) (search rules) in
+    let more = subst (λ (g : List (Vec ℕ Global)). IsMore needs n listed ready (lists g) now (lists new)) value put.more in
+    let again = subst (λ (g : List (Vec ℕ Global)). (x : ℕ) → HasEdge (lists g) node x → IsPlaced needs n listed now (lists new) x) value put.placed in
     record {
-      room = c.insert.ensures.room ∙ inv.room;
+      listed_room = c.insert.ensures.room ∙ inv.listed_room;
       len = search rules;
       unlisted =
-          let less = one_less c.loop-turn.listed c.insert.new.self c.next_node-x.result step n lt out in
-          let was = inv.unlisted in
+          let less = one_less was listed node step n next.node (not_true (has was node) next.new) in
+          let before = inv.unlisted in
           omega arith;
-      same = listed_next c.loop-turn.listed c.insert.new.self c.loop-turn.order.items c.push.new.self.items c.next_node-x.result step push inv.same;
-      next = nexts (Relates c.args.needs.now) n c.loop-turn.turn c.next_node-x.result c.loop-turn.order.items c.push.new.self.items inv.len push inv.next
-          (chosen c.args.needs.now n c.loop-turn.counts.items c.deref.result.now c.loop-turn.listed c.loop-turn.order.items c.deref.ensures.value inv.counts_len inv.counts inv.same c.next_node-x.result next);
-      counts_len = ap (λ (l : List ℕ). length l) back ∙ c.count_down.ensures.len ∙ ap (λ (l : List ℕ). length l) c.deref_mut.ensures.value ∙ inv.counts_len;
-      counts = subst (λ (l : List ℕ). (x : ℕ) → x < n → get_or l x 0 ≡ left (get_or c.args.needs.now x []) c.insert.new.self x n) (sym back)
-          (counts_next c.args.needs.now n c.loop-turn.listed c.insert.new.self counts.items c.next_node-x.result step lt out inv.counts new down);
+      same = listed_next was listed c.loop-turn.order.items c.push.new.self.items node step push inv.same;
+      next = nexts (Relates needs) n c.loop-turn.turn node c.loop-turn.order.items c.push.new.self.items inv.len push inv.next (chosen needs n was ready (lists waiting.items) inv.ready inv.placed c.loop-turn.order.items inv.same node next);
+      ready_room = put.room ∙ inv.ready_room;
+      waiting_len = ap (λ (g : List (Vec ℕ Global)). length g) back ∙ put.len ∙ ap (λ (g : List (Vec ℕ Global)). length g) value ∙ inv.waiting_len;
+      ready = ready_next needs n was listed node step ready now (lists waiting.items) (lists new) more inv.ready;
+      range = subst (λ (g : List (Vec ℕ Global)). (z x : ℕ) → HasEdge (lists g) z x → x < n) (sym back) (range_next needs n was listed node step ready now (lists waiting.items) (lists new) more inv.range);
+      placed = subst (λ (g : List (Vec ℕ Global)). (x : ℕ) → x < n → has listed x ≡ false → IsPlaced needs n listed now (lists g) x) (sym back) (placed_next needs n was listed node step ready now (lists waiting.items) (lists new) more again inv.placed);
     }
 
 pub returns-clause-all : goal.returns-clause-all
