@@ -11,14 +11,18 @@ use mk_base::memory::NoMemory;
 use number_set::NumberSet;
 use std::alloc::Global;
 
-/// The least node in the loop of a node.
+/// The least node in the loop of a node. A node that doesn't reach itself is on no cycle, and is its own loop.
 fn least_mate(rows: &[NumberSet], a: usize) -> usize
     requires room { HaveRoom (room_for (length rows.now)) rows.now }
+    requires chain { (a b c : ℕ) → Relates rows.now a b → Relates rows.now b c → Relates rows.now a c }
     requires node { a < length rows.now }
     ensures within { result ≤ a }
     ensures mate { AreMates rows.now a result }
     ensures least { (b : ℕ) → b < result → AreMates rows.now a b → ⊥ }
 {
+    if !rows[a].contains(a) {
+        return a;
+    }
     for b in 0..a {
         if rows[a].contains(b) && rows[b].contains(a) {
             return b;
