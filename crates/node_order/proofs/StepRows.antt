@@ -1,12 +1,13 @@
-use Rattle.std.proofs.Common.{◌≡◌, ◌⊎◌, ◌↔◌, ◌<◌, ◌≤◌, ◌+◌, ℕ, List, [], ◌∷◌, ◌++◌, get_or, length, inl, inr, ap, sym, ◌∙◌, subst, arith, Vec, length-append}
+use Rattle.std.proofs.Common.{◌≡◌, ◌⊎◌, ◌↔◌, ◌<◌, ◌≤◌, ◌+◌, ℕ, zero, suc, List, [], ◌∷◌, ◌++◌, get_or, length, inl, inr, ap, sym, ◌∙◌, subst, arith, refl, Vec, length-append, replicate, take}
+use Rattle.std.proofs.Math.ListN.{set}
 use Rattle.std.specs.Global.{Global}
-use Rattle.std.proofs.Math.Seq.{get_or-append_seam}
+use Rattle.std.proofs.Math.Seq.{get_or-append_seam, take-append_seam}
 use Rattle.node_reach.specs.Edges.{lists, HasEdge, InRange}
 use Rattle.node_reach.proofs.Rows.{row_at, no_edge_past}
 use Rattle.node_order.specs.Needs.{Hub, link, away, into}
-use Rattle.std.specs.List.{Contains, All}
-use Rattle.std.proofs.lemmas.Bool.{cases_lt}
-use Rattle.std.proofs.lemmas.List.{get_or_default, get_or_append_left}
+use Rattle.std.specs.List.{Contains}
+use Rattle.std.proofs.lemmas.Bool.{cases_eq, cases_lt}
+use Rattle.std.proofs.lemmas.List.{get_or_default, get_or_append_left, get_or-set_same, get_or-set_other}
 use Rattle.std.proofs.lemmas.List.Elements.{Contains-get_or, Contains-append_left, Contains-append_cases}
 use Rattle.node_reach.proofs.Searches.{contains_last, Contains-one, length_lists}
 use Rattle.node_order.specs.Away.{LeadsAway}
@@ -63,24 +64,6 @@ module _ (targets loops row : List ℕ) (own i theirs : ℕ) (lt : i < length ta
     | inr e ↦ inr (get_or targets i 0, Contains-get_or targets i 0 lt, (λ s. out (at ∙ sym s)), e ∙ ap (λ k. length loops + k) at)
   ]
 
-pub member_next : (loops row new : List ℕ) (own x : ℕ) → own ≡ get_or loops x 0 → new ≡ row ++ x ∷ [] → ((b : ℕ) → b < x → own ≡ get_or loops b 0 → Contains row b) → (b : ℕ) → b < x + 1 → own ≡ get_or loops b 0 → Contains new b
-member_next loops row new own x e push before b h s = elim (cases_lt b x) [
-  | inl less ↦ more_kept row new x push b (before b less s)
-  | inr more ↦ let same : x ≡ b = omega arith in subst (λ z. Contains new z) same (more_last row new x push)
-]
-
-pub member_sound : (loops row new : List ℕ) (own x : ℕ) → x < length loops → own ≡ get_or loops x 0 → new ≡ row ++ x ∷ [] → ((b : ℕ) → Contains row b → (b < length loops) × (own ≡ get_or loops b 0)) → (b : ℕ) → Contains new b → (b < length loops) × (own ≡ get_or loops b 0)
-member_sound loops row new own x lt e push before b h = elim (more_cases row new x push b h) [
-  | inl q ↦ before b q
-  | inr s ↦ subst (λ z. (z < length loops) × (own ≡ get_or loops z 0)) (sym s) (lt, e)
-]
-
-pub member_same : (loops row : List ℕ) (own x : ℕ) → (own ≡ get_or loops x 0 → ⊥) → ((b : ℕ) → b < x → own ≡ get_or loops b 0 → Contains row b) → (b : ℕ) → b < x + 1 → own ≡ get_or loops b 0 → Contains row b
-member_same loops row own x out before b h s = elim (cases_lt b x) [
-  | inl less ↦ before b less s
-  | inr more ↦ let same : b ≡ x = omega arith in absurd (out (s ∙ ap (λ k. get_or loops k 0) same))
-]
-
 edge_alike : (xs ys : List ℕ) (P : Type 0) (y : ℕ) → xs ≡ ys → (Contains ys y ↔ P) → Contains xs y ↔ P
 edge_alike xs ys P y e h = subst (λ (l : List ℕ). Contains l y ↔ P) (sym e) h
 
@@ -118,18 +101,6 @@ module _ (g : List (List ℕ)) (loops : List ℕ) (within : (a b : ℕ) → HasE
   from_loop (away {a = a} {z = z} e out h) le = let lt = (within a z e).0 in absurd (omega arith)
   from_loop (into h lt) le = (lt, h)
 
-  pub loop_hub : (k y : ℕ) → ((y < length loops) × (k ≡ get_or loops y 0)) ↔ H (length loops + k) y
-  loop_hub k y = ((λ h. into (ap (λ m. length loops + m) h.1) h.0), (λ h. let q = from_loop h (omega arith) in (q.0, (let e = q.1 in omega arith))))
-
-  pub none_past : All (λ k. k < length loops) loops → (x y : ℕ) → length loops + length loops ≤ x → H x y → ⊥
-  none_past small x y le h = let q = from_loop h (omega arith) in let s = small y 0 q.0 in let e = q.1 in omega arith
-
-pub all_rows : (rows : List (Vec ℕ Global)) (i : ℕ) (P : ℕ → ℕ → Type 0) → length rows ≡ i → ((x y : ℕ) → i ≤ x → P x y → ⊥) → ((x y : ℕ) → x < i → HasEdge (lists rows) x y ↔ P x y) → (x y : ℕ) → HasEdge (lists rows) x y ↔ P x y
-all_rows rows i P len none before x y = elim (cases_lt x i) [
-  | inl less ↦ before x y less
-  | inr more ↦ ((λ e. absurd (no_edge_past rows x y (omega arith) e)), (λ p. absurd (none x y more p)))
-]
-
 pub edges_within : (g : List (Vec ℕ Global)) (n : ℕ) → length g ≡ n → InRange (lists g) n → (a b : ℕ) → HasEdge (lists g) a b → (a < n) × (b < n)
 edges_within g n len range a b e = elim (cases_lt a n) [
   | inl lt ↦ (lt, subst (λ k. k < n) e.2 (range a [] (let w : a < length (lists g) = omega (arith, length_lists g) in w) e.0 b e.1))
@@ -142,3 +113,91 @@ both_iff f g = ((λ a. g.0 (f.0 a)), (λ c. f.1 (g.1 c)))
 pub node_row_hub : (g : List (List ℕ)) (loops : List ℕ) (within : (a b : ℕ) → HasEdge g a b → (a < length loops) × (b < length loops)) (a y : ℕ) (targets : List ℕ) → a < length loops → get_or g a [] ≡ targets
     → (Contains targets y ⊎ LeadsAway targets loops (get_or loops a 0) y) ↔ Hub (HasEdge g) (λ b. get_or loops b 0) (length loops) a y
 node_row_hub g loops within a y targets lt row = subst (λ (ts : List ℕ). (Contains ts y ⊎ LeadsAway ts loops (get_or loops a 0) y) ↔ Hub (HasEdge g) (λ b. get_or loops b 0) (length loops) a y) row (node_hub g loops within a y lt)
+
+-- rows with no target behind the others change no edge
+none_there : (n x : ℕ) → get_or (replicate {A = List ℕ} n []) x [] ≡ []
+none_there zero x = refl
+none_there (suc n) zero = refl
+none_there (suc n) (suc x) = none_there n x
+
+padded : (rows : List (List ℕ)) (n x : ℕ) → get_or (rows ++ replicate n []) x [] ≡ get_or rows x []
+padded [] n x = none_there n x
+padded (row ∷ rows) n zero = refl
+padded (row ∷ rows) n (suc x) = padded rows n x
+
+-- one target more in one row
+pub edge_pushed : (rows new : List (List ℕ)) (m b : ℕ) → m < length rows → new ≡ set rows m (get_or rows m [] ++ b ∷ []) → (x y : ℕ) → HasEdge new x y ↔ (HasEdge rows x y ⊎ ((x ≡ m) × (y ≡ b)))
+edge_pushed rows new m b lt is x y = elim (cases_eq x m) [
+  | inl same ↦
+      let here : get_or new x [] ≡ get_or rows x [] ++ b ∷ [] =
+      ap (λ (l : List (List ℕ)). get_or l x []) is ∙ ap (λ k. get_or (set rows m (get_or rows m [] ++ b ∷ [])) k []) same ∙ get_or-set_same rows m (get_or rows m [] ++ b ∷ []) [] lt ∙ ap (λ k. get_or rows k [] ++ b ∷ []) (sym same) in (
+        (λ h. elim (more_cases (get_or rows x []) (get_or new x []) b here y h) [ inl q ↦ inl q | inr e ↦ inr (same, e) ]),
+        (λ h. elim h [
+          | inl q ↦ more_kept (get_or rows x []) (get_or new x []) b here y q
+          | inr e ↦ subst (λ z. HasEdge new x z) (sym e.1) (more_last (get_or rows x []) (get_or new x []) b here)
+        ]),
+      )
+  | inr other ↦
+      let there : get_or new x [] ≡ get_or rows x [] = ap (λ (l : List (List ℕ)). get_or l x []) is ∙ get_or-set_other rows m x (get_or rows m [] ++ b ∷ []) [] other in (
+        (λ h. inl (subst (λ (l : List ℕ). Contains l y) there h)),
+        (λ h. elim h [ inl q ↦ subst (λ (l : List ℕ). Contains l y) (sym there) q | inr e ↦ absurd (other e.0) ]),
+      )
+]
+
+-- each node before b stands in the row of its loop, and the next node goes into its own
+pub members_next : (first rows new : List (List ℕ)) (loops : List ℕ) (b : ℕ) → (length loops + get_or loops b 0) < length rows → new ≡ set rows (length loops + get_or loops b 0) (get_or rows (length loops + get_or loops b 0) [] ++ b ∷ [])
+    → ((x y : ℕ) → HasEdge rows x y ↔ (HasEdge first x y ⊎ ((y < b) × (x ≡ length loops + get_or loops y 0))))
+    → (x y : ℕ) → HasEdge new x y ↔ (HasEdge first x y ⊎ ((y < b + 1) × (x ≡ length loops + get_or loops y 0)))
+members_next first rows new loops b lt is before x y =
+    let step = edge_pushed rows new (length loops + get_or loops b 0) b lt is x y in (
+      (λ h. elim (step.0 h) [
+        | inl q ↦ elim ((before x y).0 q) [
+          | inl e ↦ inl e
+          | inr p ↦ inr ((let less = p.0 in omega arith), p.1)
+        ]
+        | inr p ↦ inr ((let same = p.1 in omega arith), p.0 ∙ ap (λ k. length loops + get_or loops k 0) (sym p.1))
+      ]),
+      (λ h. elim h [
+        | inl e ↦ step.1 (inl ((before x y).1 (inl e)))
+        | inr p ↦ elim (cases_lt y b) [
+          | inl less ↦ step.1 (inl ((before x y).1 (inr (less, p.1))))
+          | inr more ↦
+              let below = p.0 in
+              let same : y ≡ b = omega arith in
+              step.1 (inr (p.1 ∙ ap (λ k. length loops + get_or loops k 0) same, same))
+        ]
+      ]),
+    )
+
+pub members_end : (first rows : List (List ℕ)) (loops : List ℕ) (b : ℕ) → b ≡ length loops → ((x y : ℕ) → HasEdge rows x y ↔ (HasEdge first x y ⊎ ((y < b) × (x ≡ length loops + get_or loops y 0))))
+    → (x y : ℕ) → HasEdge rows x y ↔ (HasEdge first x y ⊎ ((y < length loops) × (x ≡ length loops + get_or loops y 0)))
+members_end first rows loops b end all = subst (λ m. (x y : ℕ) → HasEdge rows x y ↔ (HasEdge first x y ⊎ ((y < m) × (x ≡ length loops + get_or loops y 0)))) end all
+
+-- the rows of the nodes, and behind them those of the loops with their members, are the graph of steps
+pub step_edges : (g : List (List ℕ)) (loops : List ℕ) → ((a b : ℕ) → HasEdge g a b → (a < length loops) × (b < length loops)) → (rows : List (Vec ℕ Global)) (wide all : List (List ℕ)) → length rows ≡ length loops → wide ≡ lists rows ++ replicate (length loops) []
+    → ((x y : ℕ) → x < length loops → HasEdge (lists rows) x y ↔ Hub (HasEdge g) (λ a. get_or loops a 0) (length loops) x y)
+    → ((x y : ℕ) → HasEdge all x y ↔ (HasEdge wide x y ⊎ ((y < length loops) × (x ≡ length loops + get_or loops y 0))))
+    → (x y : ℕ) → HasEdge all x y ↔ Hub (HasEdge g) (λ a. get_or loops a 0) (length loops) x y
+step_edges g loops within rows wide all len is nodes members x y =
+    let row : get_or wide x [] ≡ get_or (lists rows) x [] = ap (λ (l : List (List ℕ)). get_or l x []) is ∙ padded (lists rows) (length loops) x in
+    let to : HasEdge wide x y → HasEdge (lists rows) x y = λ h. subst (λ (l : List ℕ). Contains l y) row h in
+    elim (cases_lt x (length loops)) [
+      | inl less ↦ (
+        (λ h. elim ((members x y).0 h) [
+          | inl e ↦ (nodes x y less).0 (to e)
+          | inr p ↦ let at = p.1 in absurd (omega arith)
+        ]),
+        (λ h. (members x y).1 (inl (subst (λ (l : List ℕ). Contains l y) (sym row) ((nodes x y less).1 h)))),
+      )
+      | inr more ↦ (
+        (λ h. elim ((members x y).0 h) [
+          | inl e ↦ absurd (no_edge_past rows x y (omega arith) (to e))
+          | inr p ↦ into p.1 p.0
+        ]),
+        (λ h. (members x y).1 (inr (from_loop g loops within h more))),
+      )
+    ]
+
+-- a whole list that was lent and written
+pub whole : {X : Type 0} (n : ℕ) (new old : List X) → length new ≡ n → take n (new ++ old) ≡ new
+whole n new old len = subst (λ k. take k (new ++ old) ≡ new) len (take-append_seam new old)

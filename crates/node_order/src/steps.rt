@@ -1,6 +1,6 @@
 //! The graph of steps: the nodes, and behind them a node for each loop, so that its edges stay few.
 
-ghost use Rattle.std.specs.Prelude.{◌≡◌, ◌⊎◌, ◌<◌, ◌≤◌, ◌+◌, ◌↔◌, ℕ, List, IfOk, get_or, length};
+ghost use Rattle.std.specs.Prelude.{◌≡◌, ◌⊎◌, ◌<◌, ◌≤◌, ◌+◌, ◌++◌, ◌↔◌, ℕ, List, IfOk, OnOk, get_or, length, replicate, []};
 ghost use Rattle.std.specs.List.{All, Contains};
 ghost use Rattle.number_set.specs.Bits.{room_for};
 ghost use Rattle.node_reach.specs.Reach.{Reach};
@@ -34,17 +34,47 @@ fn node_row(
     Ok(row)
 }
 
-/// The nodes of a loop.
-fn members(alloc: Global, loops: &[usize], own: usize) -> Result<Vec<usize>, NoMemory>
-    ensures { IfOk result (λ row. (b : ℕ) → Contains row.items b ↔ ((b < length loops.now) × (own ≡ get_or loops.now b 0))) }
+/// The rows of the nodes: the targets of each, and the node of each other loop that they are in.
+fn node_rows(
+    alloc: Global,
+    graph: &[Vec<usize>],
+    loops: &[usize],
+) -> Result<Vec<Vec<usize>>, NoMemory>
+    requires range { InRange (lists graph.now) (length loops.now) }
+    requires len { length graph.now ≡ length loops.now }
+    requires loops { All (λ k. k < length loops.now) loops.now }
+    ensures len { IfOk result (λ g. length g.items ≡ length loops.now) }
+    ensures edges { IfOk result (λ g. (x y : ℕ) → x < length loops.now → HasEdge (lists g.items) x y ↔ Hub (HasEdge (lists graph.now)) (λ a. get_or loops.now a 0) (length loops.now) x y) }
 {
-    let mut row = Vec::new(alloc);
-    for b in 0..loops.len() {
-        if loops[b] == own {
-            row.push(b)?;
-        }
+    let mut rows = Vec::new(alloc);
+    for a in 0..loops.len() {
+        rows.push(node_row(alloc, &graph[a], loops, loops[a])?)?;
     }
-    Ok(row)
+    Ok(rows)
+}
+
+/// Puts so many rows with no target behind the others.
+fn add_empty_rows(alloc: Global, rows: &mut Vec<Vec<usize>>, count: usize) -> Result<(), NoMemory>
+    ensures { OnOk result (lists rows.new.items ≡ lists rows.old.items ++ replicate count []) }
+{
+    for turn in 0..count {
+        let _ = turn;
+        rows.push(Vec::new(alloc))?;
+    }
+    Ok(())
+}
+
+/// Puts each node into the row of its loop, which stands behind the rows of the nodes.
+fn add_members(rows: &mut [Vec<usize>], loops: &[usize]) -> Result<(), NoMemory>
+    requires len { length rows.old ≡ length loops.now + length loops.now }
+    requires loops { All (λ k. k < length loops.now) loops.now }
+    ensures len { length rows.new ≡ length rows.old }
+    ensures edges { OnOk result ((x y : ℕ) → HasEdge (lists rows.new) x y ↔ (HasEdge (lists rows.old) x y ⊎ ((y < length loops.now) × (x ≡ length loops.now + get_or loops.now y 0)))) }
+{
+    for b in 0..loops.len() {
+        rows[loops.len() + loops[b]].push(b)?;
+    }
+    Ok(())
 }
 
 /// The graph of steps over a graph, which has the targets of each node 0, 1, .. in a list, from the number of each
@@ -62,13 +92,9 @@ pub fn step_graph(
     ensures len { IfOk result (λ g. length g.items ≡ length loops.now + length loops.now) }
     ensures edges { IfOk result (λ g. (x y : ℕ) → HasEdge (lists g.items) x y ↔ Hub (HasEdge (lists graph.now)) (λ a. get_or loops.now a 0) (length loops.now) x y) }
 {
-    let mut rows = Vec::new(alloc);
-    for a in 0..loops.len() {
-        rows.push(node_row(alloc, &graph[a], loops, loops[a])?)?;
-    }
-    for k in 0..loops.len() {
-        rows.push(members(alloc, loops, k)?)?;
-    }
+    let mut rows = node_rows(alloc, graph, loops)?;
+    add_empty_rows(alloc, &mut rows, loops.len())?;
+    add_members(&mut rows, loops)?;
     Ok(rows)
 }
 

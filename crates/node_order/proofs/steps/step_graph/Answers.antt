@@ -1,63 +1,20 @@
-use Rattle.std.proofs.Common.{◌≡◌, ◌<◌, ◌+◌, ℕ, List, [], get_or, length, arith, rules, subst, sym}
-use Rattle.std.specs.List.{All}
+use Rattle.std.proofs.Common.{◌≡◌, ◌⊎◌, ◌↔◌, ◌<◌, ◌+◌, ℕ, List, Vec, drop, get_or, length, sym, ◌∙◌, subst}
+use Rattle.std.specs.Global.{Global}
 use Rattle.node_reach.specs.Edges.{lists, HasEdge}
-use Rattle.node_reach.proofs.Rows.{row_in_range}
 use Rattle.node_order.specs.Needs.{Hub}
-use Rattle.node_order.proofs.StepRows.{edges_pushed, loop_hub, none_past, all_rows, edges_within, both_iff, node_row_hub}
-use Rattle.node_reach.proofs.Searches.{row_here}
+use Rattle.node_order.proofs.StepRows.{edges_within, step_edges, whole}
 use Rattle.node_order.proofs.steps.step_graph.Goals as goal
-
-pub loop-a-preserved : goal.loop-a-preserved
-loop-a-preserved c =
-    let g = lists c.args.graph.now in
-    let loops = c.args.loops.now in
-    let n = length loops in
-    let within = edges_within c.args.graph.now n c.requires.len c.requires.range in
-    let inv = c.loop-a.invariant in
-    let a = c.loop-a.a in
-    let lt : a < n = c.loop-a-test.true in
-    let row : get_or g a [] ≡ c.deref.result.now = row_here c.args.graph.now a c.index-graph-a.result c.deref.result.now (omega arith) c.index-graph-a.is c.deref.ensures.value in
-    let v = c.in_ok-node_row.field-0 in
-    record {
-      len = search rules;
-      edges = edges_pushed c.loop-a.rows.items c.push.new.self.items v a (Hub (HasEdge g) (λ b. get_or loops b 0) n) inv.len c.in_ok-push.ensures.items
-          (λ y. both_iff (c.in_ok-node_row.ensures y) (node_row_hub g loops within a y c.deref.result.now lt row)) inv.edges;
-    }
-
-pub loop-k-preserved : goal.loop-k-preserved
-loop-k-preserved c =
-    let g = lists c.args.graph.now in
-    let loops = c.args.loops.now in
-    let n = length loops in
-    let within = edges_within c.args.graph.now n c.requires.len c.requires.range in
-    let inv = c.loop-k.invariant in
-    let k = c.loop-k.k in
-    let v = c.in_ok-members.field-0 in
-    let next = edges_pushed c.loop-k.rows.items c.push-in-loop-k.new.self.items v (n + k) (Hub (HasEdge g) (λ b. get_or loops b 0) n) inv.len c.in_ok-push-2.ensures.items
-    (λ y. both_iff (c.in_ok-members.ensures y) (loop_hub g loops within k y)) inv.edges in
-    record {
-      len = search rules;
-      edges = λ x y h. next x y (omega arith);
-    }
 
 pub returns-clause-edges : goal.returns-clause-edges
 returns-clause-edges c =
     let g = lists c.args.graph.now in
     let loops = c.args.loops.now in
-    let within = edges_within c.args.graph.now (length loops) c.requires.len c.requires.range in
-    let inv = c.loop-k.invariant in
     let n = length loops in
-    all_rows c.loop-k.rows.items (n + c.loop-k.k) (Hub (HasEdge g) (λ b. get_or loops b 0) n) inv.len (λ x y le h. none_past g loops within c.requires.loops x y (omega arith) h) inv.edges
-
-pub node_row-requires-clause-targets : goal.node_row-requires-clause-targets
-node_row-requires-clause-targets c =
-    let n = length c.args.loops.now in
-    subst (λ (xs : List ℕ). All (λ b. b < n) xs) (sym c.deref.ensures.value) (row_in_range c.args.graph.now n c.loop-a.a c.index-graph-a.result c.requires.range (omega arith) c.index-graph-a.is)
-
-pub loop-k-init : goal.loop-k-init
-loop-k-init c =
-    let inv = c.loop-a.invariant in
-    record {
-      len = let e = inv.len in omega arith;
-      edges = λ x y h. inv.edges x y (omega arith);
-    }
+    let within = edges_within c.args.graph.now n c.requires.len c.requires.range in
+    let nodes = c.in_ok-rows.ensures in
+    let wide = c.add_empty_rows.new.rows.items in
+    let all = c.add_members.new.rows in
+    let members = subst (λ (l : List (Vec ℕ Global)). (x y : ℕ) → HasEdge (lists all) x y ↔ (HasEdge (lists l) x y ⊎ ((y < n) × (x ≡ n + get_or loops y 0)))) c.deref_mut.ensures.value c.in_ok-add_members.ensures.edges in
+    let edges = step_edges g loops within c.in_ok-rows.rows.items (lists wide) (lists all) nodes.len c.in_ok-add_empty_rows.ensures nodes.edges members in
+    let end = whole c.add_empty_rows.new.rows.len all (drop (length all) wide) (c.add_members.ensures.len ∙ c.deref_mut.ensures.len) in
+    subst (λ (l : List (Vec ℕ Global)). (x y : ℕ) → HasEdge (lists l) x y ↔ Hub (HasEdge g) (λ a. get_or loops a 0) n x y) (sym end) edges
