@@ -1,8 +1,6 @@
 //! What the numbered nodes of a tree reach and need, their loops, and their order.
 ghost use Rattle.std.specs.Prelude.{◌≡◌, ◌<◌, ◌^◌, ℕ, IfOk, get_or, length};
 ghost use Rattle.std.specs.List.{All};
-ghost use Rattle.node_reach.specs.Edges.{lists, HasEdge, InRange};
-ghost use Rattle.mod_graph.specs.LoopRows.{IsFirstInLoop};
 ghost use Rattle.mod_graph.specs.Places.{AreNumbers};
 ghost use Rattle.mod_graph.specs.Rows.{AreRows};
 
@@ -10,9 +8,8 @@ use crate::edges::{module_edges, modules_of, node_edges};
 use crate::entries::Entry;
 use crate::places::Numbers;
 use mk_base::memory::NoMemory;
-use node_order::needs::needs_rows;
+use node_order::needs::{NeedsRows, needs_rows};
 use node_order::order::order_of;
-use node_reach::loops::loops_of;
 use node_reach::search::reach_rows;
 use number_set::NumberSet;
 use std::alloc::Global;
@@ -27,19 +24,12 @@ pub struct Rows {
     pub order: Vec<usize>,
 }
 
-/// The number of each node's loop, which is that of the first module in it, from the edges of modules and the module of
-/// each node. NoMemory where memory runs out.
-fn node_loops(
-    alloc: Global,
-    modules: &[Vec<usize>],
-    module_of: &[usize],
-) -> Result<Vec<usize>, NoMemory>
-    requires modules { InRange (lists modules.now) (length modules.now) }
-    requires module_of { All (λ m. m < length modules.now) module_of.now }
+/// The number of each node's loop: that of its module.
+fn node_loops(alloc: Global, loops: &[usize], module_of: &[usize]) -> Result<Vec<usize>, NoMemory>
+    requires { All (λ m. m < length loops.now) module_of.now }
     ensures len { IfOk result (λ v. length v.items ≡ length module_of.now) }
-    ensures first { IfOk result (λ v. (a : ℕ) → a < length module_of.now → IsFirstInLoop (HasEdge (lists modules.now)) (get_or module_of.now a 0) (get_or v.items a 0)) }
+    ensures loops { IfOk result (λ v. (a : ℕ) → a < length module_of.now → get_or v.items a 0 ≡ get_or loops.now (get_or module_of.now a 0) 0) }
 {
-    let loops = loops_of(alloc, modules)?;
     let mut own = Vec::new(alloc);
     for a in 0..module_of.len() {
         own.push(loops[module_of[a]])?;
@@ -57,8 +47,11 @@ pub fn rows_of(alloc: Global, entries: &[Entry], numbers: &Numbers) -> Result<Ro
     let modules = module_edges(alloc, entries, numbers)?;
     let module_of = modules_of(alloc, entries, numbers)?;
     let reach = reach_rows(alloc, &nodes)?;
-    let needs = needs_rows(alloc, &nodes, &modules, &module_of)?;
-    let loops = node_loops(alloc, &modules, &module_of)?;
+    let NeedsRows {
+        rows: needs,
+        loops: module_loops,
+    } = needs_rows(alloc, &nodes, &modules, &module_of)?;
+    let loops = node_loops(alloc, &module_loops, &module_of)?;
     let order = order_of(alloc, &needs)?;
     Ok(Rows {
         reach,

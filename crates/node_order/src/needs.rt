@@ -3,6 +3,7 @@
 ghost use Rattle.std.specs.Prelude.{◌≡◌, ◌≤◌, ◌<◌, ◌+◌, ◌↔◌, ℕ, List, IfOk, get_or, length};
 ghost use Rattle.std.specs.List.{All};
 ghost use Rattle.number_set.specs.Bits.{room_for};
+ghost use Rattle.node_reach.specs.Reach.{InOneLoop};
 ghost use Rattle.node_reach.specs.Edges.{lists, HasEdge, InRange, Relates, HaveRoom};
 ghost use Rattle.node_order.specs.Needs.{Needs, InLoop, Follows, NeedsAreReached, HubsLead};
 
@@ -11,6 +12,13 @@ use mk_base::memory::NoMemory;
 use node_reach::loops::loops_of;
 use number_set::NumberSet;
 use std::alloc::Global;
+
+/// What the nodes of a graph need, a row for each, and the loops of their modules, a number for each.
+#[derive(Drop)]
+pub struct NeedsRows {
+    pub rows: Vec<NumberSet>,
+    pub loops: Vec<usize>,
+}
 
 /// The loop of each node: that of its module.
 fn node_loops(alloc: Global, loops: &[usize], module_of: &[usize]) -> Result<Vec<usize>, NoMemory>
@@ -28,28 +36,31 @@ fn node_loops(alloc: Global, loops: &[usize], module_of: &[usize]) -> Result<Vec
 /// A row for each node 0, 1, .. with what it needs: all nodes that it reaches and, with each node of another loop of
 /// modules, all nodes of that loop and what these reach. `nodes` has the targets of each node, `modules` those of each
 /// module, and `module_of` the module of each node; an edge of nodes stays in its module or is an edge of modules, and
-/// there are no more modules than nodes. The rows have room for twice the number of nodes. NoMemory where memory runs
-/// out.
+/// there are no more modules than nodes. The rows have room for twice the number of nodes. With them comes the loop of
+/// each module, whose number is the least module in it. NoMemory where memory runs out.
 pub fn needs_rows(
     alloc: Global,
     nodes: &[Vec<usize>],
     modules: &[Vec<usize>],
     module_of: &[usize],
-) -> Result<Vec<NumberSet>, NoMemory>
+) -> Result<NeedsRows, NoMemory>
     requires len { length nodes.now ≡ length module_of.now }
     requires range { InRange (lists nodes.now) (length module_of.now) }
     requires modules { InRange (lists modules.now) (length modules.now) }
     requires module_of { All (λ m. m < length modules.now) module_of.now }
     requires few { length modules.now ≤ length module_of.now }
     requires follows { Follows (HasEdge (lists nodes.now)) (HasEdge (lists modules.now)) (λ a. get_or module_of.now a 0) (length module_of.now) }
-    ensures len { IfOk result (λ rows. length rows.items ≡ length module_of.now) }
-    ensures room { IfOk result (λ rows. HaveRoom (room_for (length module_of.now + length module_of.now)) rows.items) }
-    ensures needs { IfOk result (λ rows. (a b : ℕ) → a < length module_of.now → b < length module_of.now → Relates rows.items a b ↔ Needs (HasEdge (lists nodes.now)) (InLoop (HasEdge (lists nodes.now)) (HasEdge (lists modules.now)) (λ c. get_or module_of.now c 0) (length module_of.now)) (length module_of.now) a b) }
+    ensures len { IfOk result (λ r. length r.rows.items ≡ length module_of.now) }
+    ensures room { IfOk result (λ r. HaveRoom (room_for (length module_of.now + length module_of.now)) r.rows.items) }
+    ensures needs { IfOk result (λ r. (a b : ℕ) → a < length module_of.now → b < length module_of.now → Relates r.rows.items a b ↔ Needs (HasEdge (lists nodes.now)) (InLoop (HasEdge (lists nodes.now)) (HasEdge (lists modules.now)) (λ c. get_or module_of.now c 0) (length module_of.now)) (length module_of.now) a b) }
+    ensures loops_len { IfOk result (λ r. length r.loops.items ≡ length modules.now) }
+    ensures loops { IfOk result (λ r. (a b : ℕ) → a < length modules.now → b < length modules.now → (get_or r.loops.items a 0 ≡ get_or r.loops.items b 0) ↔ InOneLoop (HasEdge (lists modules.now)) a b) }
+    ensures least { IfOk result (λ r. (a : ℕ) → a < length modules.now → (get_or r.loops.items a 0 ≤ a) × InOneLoop (HasEdge (lists modules.now)) a (get_or r.loops.items a 0)) }
 {
     let loops = loops_of(alloc, modules)?;
     let own = node_loops(alloc, &loops, module_of)?;
     let rows = step_rows(alloc, nodes, &own)?;
-    Ok(rows)
+    Ok(NeedsRows { rows, loops })
 }
 
 /// Over edges of nodes and of modules, what a node needs is what it reaches by steps that lead into another loop at any of its nodes.

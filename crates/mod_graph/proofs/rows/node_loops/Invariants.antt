@@ -4,5 +4,5 @@ use Rattle.mod_graph.proofs.rows.node_loops.Given as goal
 abbrev pub invariant-loop-a : goal.invariant-loop-a
 invariant-loop-a l = record {
   len : length l.own.items ≡ l.a;
-  loops : (a : ℕ) → a < l.a → get_or l.own.items a 0 ≡ get_or l.loops.items (get_or l.module_of a 0) 0;
+  loops : (a : ℕ) → a < l.a → get_or l.own.items a 0 ≡ get_or l.loops (get_or l.module_of a 0) 0;
 }
