@@ -15,6 +15,7 @@ pub mod ByNode
 pub mod EdgeRows
 pub mod FirstNumbers
 pub mod Placed
+pub mod Skips
 pub mod Views
 pub mod LeastNames
 pub mod Members

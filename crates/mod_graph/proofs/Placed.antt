@@ -35,11 +35,7 @@ below_alike (suc n) p q h =
     ap (λ (l : List ℕ). l ++ cond (p n) (n ∷ []) []) (below_alike n p q (λ k lt. h k (omega arith)))
     ∙ ap (λ b. below n q ++ cond b (n ∷ []) []) (h n (omega arith))
 
--- one more number is looked at
-pub below_kept : (p : ℕ → Bool) (n : ℕ) (xs : List ℕ) → xs ≡ below n p → p n ≡ false → xs ≡ below (n + 1) p
-below_kept p n xs before out =
-    before ∙ sym (append-nil (below n p)) ∙ sym (ap (λ k. below k p) (add-one n) ∙ ap (λ b. below n p ++ cond b (n ∷ []) []) out)
-
+-- one more number passes
 pub below_push : (p : ℕ → Bool) (n : ℕ) (xs ys : List NodeId) (x : NodeId) → ids xs ≡ below n p → p n ≡ true → ys ≡ xs ++ x ∷ [] → x.0 ≡ n → ids ys ≡ below (n + 1) p
 below_push p n xs ys x before there push same =
     ap ids push ∙ map-append (λ (m : NodeId). m.0) xs (x ∷ []) ∙ ap (λ (l : List ℕ). l ++ x.0 ∷ []) before ∙ ap (λ k. below n p ++ k ∷ []) same

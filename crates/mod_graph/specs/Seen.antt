@@ -1,10 +1,23 @@
 -- What is read off the tables of a graph: the places of what a node needs, and what it sees of a module.
-use Rattle.std.specs.Prelude.{ℕ, Bool, ◌&&◌, ◌||◌, not, nat_eq, List, [], get_or, length, Some, None, Option, if◌then◌else◌}
+use Rattle.std.specs.Prelude.{◌≡◌, ◌<◌, ℕ, Bool, ◌&&◌, ◌||◌, not, nat_eq, List, [], get_or, length, Some, None, Option, if◌then◌else◌}
+use Rattle.std.specs.List.{All}
 use Rattle.number_set.specs.Bits.{has}
 use Rattle.mod_graph.specs.declared.input.ViewOf.{ViewOf}
 use Rattle.mod_graph.specs.declared.input.ViewOf.TheVariants as view
 use Rattle.mod_graph.specs.declared.rows.Rows.{Rows}
-use Rattle.mod_graph.specs.Chains.{below}
+use Rattle.mod_graph.specs.Chains.{any_below, below}
+
+-- the place of each number below the length of an order, which has each of them once
+pub record ArePlaces (places order : List ℕ) : Type 0 where
+  pub count : length places ≡ length order
+  pub range : All (λ k. k < length order) places
+  pub order_range : All (λ r. r < length order) order
+  pub place_of : (k : ℕ) → k < length order → get_or places (get_or order k 0) 0 ≡ k
+  pub number_at : (r : ℕ) → r < length order → get_or order (get_or places r 0) 0 ≡ r
+
+-- k is the place of some number in the row
+abbrev pub is_place : List ℕ → List ℕ → ℕ → Bool
+is_place row places k = any_below (length places) (λ r. has row r && nat_eq k (get_or places r 0))
 
 -- the node at the place k is in the row of the one that stands at a place, and isn't that one
 abbrev pub is_needed : List ℕ → List ℕ → ℕ → ℕ → Bool

@@ -1,13 +1,14 @@
 //! What a graph lists for each place of its order.
-ghost use Rattle.std.specs.Prelude.{◌≡◌, ◌<◌, ◌≤◌, ◌^◌, ◌&&◌, ℕ, IfOk, List as Row, [], length, map, not, nat_eq, get_or};
+ghost use Rattle.std.specs.Prelude.{◌≡◌, ◌<◌, ◌≤◌, ◌^◌, ◌&&◌, ℕ, IfOk, List as Row, [], false, length, map, not, get_or};
 ghost use Rattle.std.specs.List.{All};
-ghost use Rattle.number_set.specs.Bits.{has, room};
+ghost use Rattle.number_set.specs.Bits.{has, room, room_for};
+ghost use Rattle.mod_graph.specs.Chains.{below};
 ghost use Rattle.mod_graph.specs.Errors.{errors_of};
 ghost use Rattle.mod_graph.specs.Graph.{Input, entries as entries_in, ids, nodes_at};
 ghost use Rattle.mod_graph.specs.Parts.{AreLists};
 ghost use Rattle.mod_graph.specs.Places.{AreNumbers};
 ghost use Rattle.mod_graph.specs.Rows.{AreRows};
-ghost use Rattle.mod_graph.specs.Seen.{places_needed};
+ghost use Rattle.mod_graph.specs.Seen.{ArePlaces, is_place, places_needed};
 ghost use Rattle.mod_graph.specs.Tables.{AreTables};
 ghost use Rattle.mod_graph.specs.declared.input.PackageModule.{PackageModule as ModuleOfPackage};
 
@@ -65,40 +66,76 @@ fn places_in_order(alloc: Global, order: &[usize]) -> Result<Vec<usize>, NoMemor
     Ok(places)
 }
 
-/// Whether the node at the place `k` stands in a row of needs and isn't the one at `place`, whose row it is.
-fn is_needed(order: &[usize], needed: &NumberSet, place: usize, k: usize) -> bool
-    requires k { k < length order.now }
-    requires room { All (λ number. number < room needed.now) order.now }
-    ensures { result ≡ (not (nat_eq k place) && has needed.now (get_or order.now k 0)) }
+/// The places of the nodes in a row, as a set, where `none` is a set of no number.
+fn placed_in(
+    alloc: Global,
+    places: &[usize],
+    needed: &NumberSet,
+    none: &NumberSet,
+) -> Result<NumberSet, NoMemory>
+    requires range { All (λ k. k < length places.now) places.now }
+    requires needed { length places.now ≤ room needed.now }
+    requires none_room { length places.now ≤ room none.now }
+    requires none { (k : ℕ) → has none.now k ≡ false }
+    ensures room { IfOk result (λ s. room s ≡ room_for (length places.now)) }
+    ensures has { IfOk result (λ s. (k : ℕ) → has s k ≡ is_place needed.now places.now k) }
 {
-    k != place && needed.contains(order[k])
+    let mut placed = NumberSet::empty(alloc, places.len())?;
+    let mut from = 0;
+    while let Some(number) = needed.next_outside(none, from, places.len()) {
+        placed.insert(places[number]);
+        from = number + 1;
+    }
+    Ok(placed)
 }
 
-/// The places of what the node at a place needs besides itself, rising.
+/// The places below a count that stand in a set and not in another, rising.
+fn listed(
+    alloc: Global,
+    placed: &NumberSet,
+    skipped: &NumberSet,
+    count: usize,
+) -> Result<List<NodeId>, NoMemory>
+    requires few { count < 2 ^ 32 }
+    requires placed { count ≤ room placed.now }
+    requires skipped { count ≤ room skipped.now }
+    ensures { IfOk result (λ ns. ids ns ≡ below count (λ k. not (has skipped.now k) && has placed.now k)) }
+{
+    let mut nodes = List::new(alloc);
+    let mut from = 0;
+    while let Some(place) = placed.next_outside(skipped, from, count) {
+        nodes.push(NodeId(place as u32))?;
+        from = place + 1;
+    }
+    Ok(nodes)
+}
+
+/// The places of what the node at a place needs besides itself, rising, from its row and the place of each number.
 fn needs_at(
     alloc: Global,
     order: &[usize],
+    places: &[usize],
     needed: &NumberSet,
     place: usize,
 ) -> Result<List<NodeId>, NoMemory>
     requires few { length order.now < 2 ^ 32 }
-    requires room { All (λ number. number < room needed.now) order.now }
+    requires place { place < length order.now }
+    requires places { ArePlaces places.now order.now }
+    requires room { length order.now ≤ room needed.now }
     ensures { IfOk result (λ ns. ids ns ≡ places_needed needed.now order.now place) }
 {
-    let mut needs = List::new(alloc);
-    for k in 0..order.len() {
-        if is_needed(order, needed, place, k) {
-            needs.push(NodeId(k as u32))?;
-        }
-    }
-    Ok(needs)
+    let mut skipped = NumberSet::empty(alloc, order.len())?;
+    let placed = placed_in(alloc, places, needed, &skipped)?;
+    skipped.insert(place);
+    listed(alloc, &placed, &skipped, order.len())
 }
 
 /// What each node needs, by place.
-fn all_needs(alloc: Global, rows: &Rows) -> Result<List<List<NodeId>>, NoMemory>
+fn all_needs(alloc: Global, rows: &Rows, places: &[usize]) -> Result<List<List<NodeId>>, NoMemory>
     requires few { length rows.now.order.items < 2 ^ 32 }
     requires range { All (λ k. k < length rows.now.needs.items) rows.now.order.items }
-    requires room { All (λ row. length rows.now.needs.items ≤ room row) rows.now.needs.items }
+    requires places { ArePlaces places.now rows.now.order.items }
+    requires room { All (λ row. length rows.now.order.items ≤ room row) rows.now.needs.items }
     ensures len { IfOk result (λ all. length all ≡ length rows.now.order.items) }
     ensures needs { IfOk result (λ all. (k : ℕ) → k < length rows.now.order.items
         → ids (get_or all k []) ≡ places_needed (get_or rows.now.needs.items (get_or rows.now.order.items k 0) []) rows.now.order.items k) }
@@ -106,7 +143,7 @@ fn all_needs(alloc: Global, rows: &Rows) -> Result<List<List<NodeId>>, NoMemory>
     let mut all = List::new(alloc);
     for place in 0..rows.order.len() {
         let needed = &rows.needs[rows.order[place]];
-        all.push(needs_at(alloc, &rows.order, needed, place)?)?;
+        all.push(needs_at(alloc, &rows.order, places, needed, place)?)?;
     }
     Ok(all)
 }
@@ -160,10 +197,10 @@ pub fn lists_of(
 {
     let by_number = reached_packages(alloc, entries, numbers, rows, tables)?;
     let order = nodes_in_order(alloc, entries, &rows.order)?;
-    let needs = all_needs(alloc, rows)?;
+    let places = places_in_order(alloc, &rows.order)?;
+    let needs = all_needs(alloc, rows, &places)?;
     let errors = all_errors(alloc, entries, numbers, rows, tables)?;
     let reached = picked(alloc, &by_number, &rows.order)?;
-    let places = places_in_order(alloc, &rows.order)?;
     Ok(Lists {
         order,
         needs,

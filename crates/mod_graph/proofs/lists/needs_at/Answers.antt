@@ -1,15 +1,18 @@
-use Rattle.std.proofs.Common.{refl, ap, sym, ◌∙◌}
+use Rattle.std.proofs.Common.{◌≡◌, ◌&&◌, not, ℕ, List, length, ◌∙◌}
+use Rattle.mk_base.specs.declared.place.NodeId.{NodeId}
+use Rattle.number_set.specs.Bits.{has}
+use Rattle.mod_graph.specs.Chains.{below}
 use Rattle.mod_graph.specs.Graph.{ids}
-use Rattle.mod_graph.specs.Seen.{is_needed}
-use Rattle.mod_graph.proofs.Placed.{below_kept, below_push}
+use Rattle.mod_graph.specs.Seen.{places_needed}
+use Rattle.mod_graph.proofs.Skips.{if_ok, needed_listed}
 use Rattle.mod_graph.proofs.lists.needs_at.Goals as goal
-use Rattle.mod_graph.proofs.lists.needs_at.Goals.{then-is_needed+in_ok-push, else-is_needed}
 
-pub loop-k-preserved : goal.loop-k-preserved
-loop-k-preserved c =
-    let test = is_needed c.args.needed.now c.args.order.now c.args.place in
-    let k = c.loop-k.k in
-    elim c.if-is_needed.branch [
-      | then-is_needed+in_ok-push w ↦ below_push test k c.loop-k.needs c.if-is_needed.needs (record { 0 = k }) c.loop-k.invariant (sym c.is_needed.ensures ∙ w.if-is_needed.true) (w.needs-is ∙ w.in_ok-push.ensures.ok) refl
-      | else-is_needed w ↦ below_kept test k (ids c.if-is_needed.needs) (ap ids w.needs-is ∙ c.loop-k.invariant) (sym c.is_needed.ensures ∙ w.if-is_needed.false)
-    ]
+pub returns : goal.returns
+returns c =
+    let order : List ℕ = c.args.order.now in
+    let needed : List ℕ = c.args.needed.now in
+    let placed : List ℕ = c.in_ok-placed.placed in
+    let skipped : List ℕ = c.insert.new.self in
+    if_ok (λ (ns : List NodeId). ids ns ≡ below (length order) (λ k. not (has skipped k) && has placed k)) (λ (ns : List NodeId). ids ns ≡ places_needed needed order c.args.place) c.listed.result
+    (λ ns same. same ∙ needed_listed needed c.args.places.now order placed skipped c.in_ok-skipped.skipped c.args.place c.requires.places c.in_ok-skipped.ensures.none c.insert.ensures.has c.in_ok-placed.ensures.has)
+    c.listed.ensures
