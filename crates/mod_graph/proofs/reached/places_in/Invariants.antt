@@ -1,7 +1,10 @@
-use Rattle.std.proofs.Common.{◌≡◌}
+use Rattle.std.proofs.Common.{◌≡◌, ◌≤◌, ◌-◌}
 use Rattle.number_set.specs.Bits.{has}
 use Rattle.mod_graph.specs.Chains.{below}
 use Rattle.mod_graph.proofs.reached.places_in.Given as goal
 
 abbrev pub invariant-loop-place : goal.invariant-loop-place
-invariant-loop-place l = l.places ≡ below l.place (has l.row)
+invariant-loop-place l = record { within : l.from ≤ l.count; listed : l.places ≡ below l.from (has l.row) }
+
+abbrev pub decreases-loop-place : goal.decreases-loop-place
+decreases-loop-place l = l.count - l.from
