@@ -6,7 +6,7 @@ use Rattle.std.proofs.lemmas.Bool.{cases_lt}
 use Rattle.std.proofs.lemmas.List.{append-nil}
 use Rattle.mk_base.specs.declared.place.NodeId.{NodeId}
 use Rattle.number_set.specs.Bits.{has}
-use Rattle.number_set.proofs.Booleans.{both_ways, not_true, is_same, from_test}
+use Rattle.number_set.proofs.Booleans.{not_true, is_same, from_test}
 use Rattle.node_order.specs.Order.{IsOrder}
 use Rattle.mod_graph.specs.Chains.{any_below, below}
 use Rattle.mod_graph.specs.Graph.{ids}

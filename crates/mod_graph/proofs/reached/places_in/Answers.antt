@@ -1,4 +1,4 @@
-use Rattle.std.proofs.Common.{ℕ, List, sym, ◌∙◌, arith, rules}
+use Rattle.std.proofs.Common.{ℕ, List, sym, ◌∙◌, arith}
 use Rattle.number_set.specs.Bits.{has}
 use Rattle.mod_graph.proofs.Skips.{NoneFrom, absent_in, below_found, below_skip}
 use Rattle.mod_graph.proofs.reached.places_in.Goals as goal
