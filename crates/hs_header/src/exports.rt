@@ -197,6 +197,14 @@ fn with_module(alloc: Global, known: Known, at: Pos, token: &Token) -> Result<Tu
     Ok(goes(with_export(alloc, known, item)?, Stage::ExportRead))
 }
 
+/// Behind the operator that a token names, the closing parenthesis not read yet.
+fn with_operator(alloc: Global, known: Known, at: Pos, token: &Token) -> Result<Turn, NoMemory>
+    ensures { IfOk result (λ turn. turn ≡ spec.at_export_operator known at Terminal.VarOperator token.now) }
+{
+    let name = name_ref(alloc, token)?;
+    Ok(goes(known, Stage::ExportClose(at, name)))
+}
+
 /// Behind a parenthesis at a place among the exports: an operator.
 pub fn at_export_operator(
     alloc: Global,
@@ -208,11 +216,8 @@ pub fn at_export_operator(
     ensures { IfOk result (λ turn. turn ≡ spec.at_export_operator known at terminal token.now) }
 {
     match terminal {
-        Terminal::VarOperator => Ok(goes(known, Stage::ExportClose(at, name_ref(alloc, token)?))),
-        Terminal::QualifiedVarOperator => Ok(goes(
-            known,
-            Stage::ExportClose(at, name_ref(alloc, token)?),
-        )),
+        Terminal::VarOperator => with_operator(alloc, known, at, token),
+        Terminal::QualifiedVarOperator => with_operator(alloc, known, at, token),
         _ => Ok(Turn::Leaves),
     }
 }

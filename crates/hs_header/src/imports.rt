@@ -2,7 +2,7 @@
 ghost use Rattle.std.specs.Prelude.{◌≡◌, IfOk};
 ghost use Rattle.hs_header.specs.Machine as spec;
 
-use crate::parts::{goes, import_of, with_alias, with_import, with_list};
+use crate::parts::{goes, import_of, leaves, with_alias, with_import, with_list};
 use crate::state::{Begun, Known, Stage, Turn};
 use crate::terminal::{Terminal, VarWord};
 use hs_syntax::header::{Header, ImportItem};
@@ -109,6 +109,14 @@ pub fn at_import_read(
     }
 }
 
+/// Behind the alias that a token names.
+fn aliased(alloc: Global, known: Known, item: ImportItem, token: &Token) -> Result<Turn, NoMemory>
+    ensures { IfOk result (λ turn. turn ≡ spec.at_import_as known item Terminal.Con token.now) }
+{
+    let item = with_alias(alloc, item, token)?;
+    Ok(goes(known, Stage::AliasRead(item)))
+}
+
 /// Behind `as`: the alias.
 pub fn at_import_as(
     alloc: Global,
@@ -120,12 +128,9 @@ pub fn at_import_as(
     ensures { IfOk result (λ turn. turn ≡ spec.at_import_as known item terminal token.now) }
 {
     match terminal {
-        Terminal::Con => Ok(goes(known, Stage::AliasRead(with_alias(alloc, item, token)?))),
-        Terminal::QualifiedCon => Ok(goes(
-            known,
-            Stage::AliasRead(with_alias(alloc, item, token)?),
-        )),
-        _ => Ok(Turn::Leaves),
+        Terminal::Con => aliased(alloc, known, item, token),
+        Terminal::QualifiedCon => aliased(alloc, known, item, token),
+        _ => Ok(leaves(known, Stage::ImportAs(item))),
     }
 }
 
@@ -158,7 +163,7 @@ pub fn at_list_read(known: Known, item: ImportItem, terminal: Terminal) -> Resul
             let known = with_import(known, item)?;
             Ok(ends(known.put, put, known.header))
         }
-        _ => Ok(Turn::Leaves),
+        _ => Ok(leaves(known, Stage::ListRead(item))),
     }
 }
 

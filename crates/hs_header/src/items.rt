@@ -1,10 +1,12 @@
 //! The lists of imports (Haskell 2010 Report, section 5.3).
-ghost use Rattle.std.specs.Prelude.{◌≡◌, Some, IfOk};
+ghost use Rattle.std.specs.Prelude.{◌≡◌, IfOk};
 ghost use Rattle.hs_header.specs.Machine as spec;
+ghost use Rattle.hs_header.specs.Names as names;
 ghost use Rattle.hs_header.specs.declared.state.Stage.TheVariants as stage;
+ghost use Rattle.hs_syntax.specs.declared.header.IitemTree.TheVariants as iitem;
 
 use crate::name::name_ref;
-use crate::parts::{goes, with_item};
+use crate::parts::{goes, leaves, with_item};
 use crate::state::{Former, Known, Stage, Turn};
 use crate::terminal::Terminal;
 use hs_syntax::header::{IitemTree, ImportItem};
@@ -20,7 +22,7 @@ pub fn at_list_hiding(known: Known, item: ImportItem, terminal: Terminal) -> Tur
 {
     match terminal {
         Terminal::OpenParen => goes(known, Stage::ItemFirst(item)),
-        _ => Turn::Leaves,
+        _ => leaves(known, Stage::ListHiding(item)),
     }
 }
 
@@ -37,16 +39,44 @@ pub fn whole_item(
     Ok(goes(known, Stage::ItemRead(item)))
 }
 
-/// Behind a type or class of the list.
-fn at_former(known: Known, item: ImportItem, at: Pos, name: NameRef) -> Turn
-    ensures { result ≡ spec.goes known (stage.FormerRead (record { at = at; name = name; import = Some item })) }
+/// Behind a variable of the list.
+fn with_var(alloc: Global, known: Known, item: ImportItem, token: &Token) -> Result<Turn, NoMemory>
+    ensures { IfOk result (λ turn. turn ≡ spec.goes known (stage.ItemRead (spec.with_item item (iitem.Var token.now.at (names.name_ref token.now))))) }
 {
+    let name = name_ref(alloc, token)?;
+    whole_item(alloc, known, item, IitemTree::Var { at: token.at, name })
+}
+
+/// Behind a type or class of the list.
+fn with_former(
+    alloc: Global,
+    known: Known,
+    item: ImportItem,
+    token: &Token,
+) -> Result<Turn, NoMemory>
+    ensures { IfOk result (λ turn. turn ≡ spec.at_item known item Terminal.Con token.now) }
+{
+    let name = name_ref(alloc, token)?;
     let former = Former {
-        at,
+        at: token.at,
         name,
         import: Some(item),
     };
-    goes(known, Stage::FormerRead(former))
+    Ok(goes(known, Stage::FormerRead(former)))
+}
+
+/// Behind an operator of the list.
+fn with_operator(
+    alloc: Global,
+    known: Known,
+    item: ImportItem,
+    at: Pos,
+    token: &Token,
+) -> Result<Turn, NoMemory>
+    ensures { IfOk result (λ turn. turn ≡ spec.at_item_operator known item at Terminal.VarOperator token.now) }
+{
+    let name = name_ref(alloc, token)?;
+    Ok(goes(known, Stage::ItemClose(item, at, name)))
 }
 
 /// The first token of a name in the list.
@@ -61,15 +91,9 @@ fn at_item(
 {
     match terminal {
         Terminal::OpenParen => Ok(goes(known, Stage::ItemOperator(item, token.at))),
-        Terminal::Var(_) => {
-            let name = name_ref(alloc, token)?;
-            whole_item(alloc, known, item, IitemTree::Var { at: token.at, name })
-        }
-        Terminal::Con => {
-            let name = name_ref(alloc, token)?;
-            Ok(at_former(known, item, token.at, name))
-        }
-        _ => Ok(Turn::Leaves),
+        Terminal::Var(_) => with_var(alloc, known, item, token),
+        Terminal::Con => with_former(alloc, known, item, token),
+        _ => Ok(leaves(known, Stage::ItemFirst(item))),
     }
 }
 
@@ -118,11 +142,8 @@ pub fn at_item_operator(
     ensures { IfOk result (λ turn. turn ≡ spec.at_item_operator known item at terminal token.now) }
 {
     match terminal {
-        Terminal::VarOperator => {
-            let name = name_ref(alloc, token)?;
-            Ok(goes(known, Stage::ItemClose(item, at, name)))
-        }
-        _ => Ok(Turn::Leaves),
+        Terminal::VarOperator => with_operator(alloc, known, item, at, token),
+        _ => Ok(leaves(known, Stage::ItemOperator(item, at))),
     }
 }
 
@@ -139,7 +160,7 @@ pub fn at_item_close(
 {
     match terminal {
         Terminal::CloseParen => whole_item(alloc, known, item, IitemTree::Var { at, name }),
-        _ => Ok(Turn::Leaves),
+        _ => Ok(leaves(known, Stage::ItemClose(item, at, name))),
     }
 }
 
@@ -150,7 +171,7 @@ pub fn at_item_read(known: Known, item: ImportItem, terminal: Terminal) -> Turn
     match terminal {
         Terminal::Comma => goes(known, Stage::ItemNext(item)),
         Terminal::CloseParen => goes(known, Stage::ListRead(item)),
-        _ => Turn::Leaves,
+        _ => leaves(known, Stage::ItemRead(item)),
     }
 }
 
@@ -160,6 +181,6 @@ pub fn at_close(known: Known, stage: Stage, terminal: Terminal) -> Turn
 {
     match terminal {
         Terminal::CloseParen => goes(known, stage),
-        _ => Turn::Leaves,
+        _ => leaves(known, stage),
     }
 }

@@ -1,6 +1,7 @@
 //! What a token adds to what is known of a header.
 ghost use Rattle.std.specs.Prelude.{◌≡◌, ◌++◌, ◌∷◌, [], IfOk};
 ghost use Rattle.hs_header.specs.Machine as spec;
+ghost use Rattle.hs_header.specs.declared.state.Turn.TheVariants as turn;
 
 use crate::name::module_ref;
 use crate::state::{Begun, Known, Stage, State, Turn};
@@ -16,6 +17,13 @@ pub fn goes(known: Known, stage: Stage) -> Turn
     ensures { result ≡ spec.goes known stage }
 {
     Turn::On(State { stage, known })
+}
+
+/// The token leaves the grammar, and what was read is let go.
+pub fn leaves(known: Known, stage: Stage) -> Turn
+    ensures { result ≡ turn.Leaves }
+{
+    Turn::Leaves
 }
 
 /// The module's name and its place.

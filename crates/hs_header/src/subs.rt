@@ -1,12 +1,14 @@
 //! Types and classes in a list, and what is told of their parts (Haskell 2010 Report, sections 5.2 and 5.3).
 ghost use Rattle.std.specs.Prelude.{◌≡◌, ◌++◌, ◌∷◌, [], IfOk};
 ghost use Rattle.hs_header.specs.Machine as spec;
+ghost use Rattle.hs_header.specs.Names as names;
 ghost use Rattle.hs_header.specs.declared.state.Stage.TheVariants as stage;
+ghost use Rattle.hs_syntax.specs.declared.header.SubTree.TheVariants as subtree;
 
 use crate::exports::at_export_read;
 use crate::items::{at_item_read, whole_item};
 use crate::name::name_ref;
-use crate::parts::{goes, with_export, with_item, with_sub};
+use crate::parts::{goes, leaves, with_export, with_item, with_sub};
 use crate::state::{Former, Known, Stage, Turn};
 use crate::terminal::Terminal;
 use hs_syntax::header::{ExportItem, IitemTree, SubTree, Subs};
@@ -105,6 +107,50 @@ fn whole_sub(
     Ok(goes(known, Stage::SubRead(former, subs)))
 }
 
+/// The variable that a token names, as a part.
+fn var_part(alloc: Global, at: Pos, token: &Token) -> Result<SubTree, NoMemory>
+    ensures { IfOk result (λ s. s ≡ subtree.Var at (names.name_ref token.now)) }
+{
+    let name = name_ref(alloc, token)?;
+    Ok(SubTree::Var { at, name })
+}
+
+/// The constructor that a token names, as a part.
+fn con_part(alloc: Global, at: Pos, token: &Token) -> Result<SubTree, NoMemory>
+    ensures { IfOk result (λ s. s ≡ subtree.Con at (names.name_ref token.now)) }
+{
+    let name = name_ref(alloc, token)?;
+    Ok(SubTree::Con { at, name })
+}
+
+/// Behind a variable.
+fn with_var(
+    alloc: Global,
+    known: Known,
+    former: Former,
+    subs: List<SubTree>,
+    token: &Token,
+) -> Result<Turn, NoMemory>
+    ensures { IfOk result (λ turn. turn ≡ spec.goes known (stage.SubRead former (subs ++ subtree.Var token.now.at (names.name_ref token.now) ∷ []))) }
+{
+    let part = var_part(alloc, token.at, token)?;
+    whole_sub(known, former, subs, part)
+}
+
+/// Behind a constructor.
+fn with_con(
+    alloc: Global,
+    known: Known,
+    former: Former,
+    subs: List<SubTree>,
+    token: &Token,
+) -> Result<Turn, NoMemory>
+    ensures { IfOk result (λ turn. turn ≡ spec.at_sub known former subs Terminal.Con token.now) }
+{
+    let part = con_part(alloc, token.at, token)?;
+    whole_sub(known, former, subs, part)
+}
+
 /// Where a part begins.
 pub fn at_sub(
     alloc: Global,
@@ -118,15 +164,9 @@ pub fn at_sub(
 {
     match terminal {
         Terminal::OpenParen => Ok(goes(known, Stage::SubOperator(former, subs, token.at))),
-        Terminal::Var(_) => {
-            let name = name_ref(alloc, token)?;
-            whole_sub(known, former, subs, SubTree::Var { at: token.at, name })
-        }
-        Terminal::Con => {
-            let name = name_ref(alloc, token)?;
-            whole_sub(known, former, subs, SubTree::Con { at: token.at, name })
-        }
-        _ => Ok(Turn::Leaves),
+        Terminal::Var(_) => with_var(alloc, known, former, subs, token),
+        Terminal::Con => with_con(alloc, known, former, subs, token),
+        _ => Ok(leaves(known, Stage::SubRead(former, subs))),
     }
 }
 
@@ -150,6 +190,36 @@ pub fn at_sub_first(
     }
 }
 
+/// Behind an operator of a variable's name, the closing parenthesis not read yet.
+fn with_var_operator(
+    alloc: Global,
+    known: Known,
+    former: Former,
+    subs: List<SubTree>,
+    at: Pos,
+    token: &Token,
+) -> Result<Turn, NoMemory>
+    ensures { IfOk result (λ turn. turn ≡ spec.at_sub_operator known former subs at Terminal.VarOperator token.now) }
+{
+    let part = var_part(alloc, at, token)?;
+    Ok(goes(known, Stage::SubClose(former, subs, part)))
+}
+
+/// Behind an operator of a constructor's name, the closing parenthesis not read yet.
+fn with_con_operator(
+    alloc: Global,
+    known: Known,
+    former: Former,
+    subs: List<SubTree>,
+    at: Pos,
+    token: &Token,
+) -> Result<Turn, NoMemory>
+    ensures { IfOk result (λ turn. turn ≡ spec.at_sub_operator known former subs at Terminal.ConOperator token.now) }
+{
+    let part = con_part(alloc, at, token)?;
+    Ok(goes(known, Stage::SubClose(former, subs, part)))
+}
+
 /// Behind a parenthesis at a place among the parts: an operator.
 pub fn at_sub_operator(
     alloc: Global,
@@ -163,21 +233,9 @@ pub fn at_sub_operator(
     ensures { IfOk result (λ turn. turn ≡ spec.at_sub_operator known former subs at terminal token.now) }
 {
     match terminal {
-        Terminal::VarOperator => {
-            let name = name_ref(alloc, token)?;
-            Ok(goes(
-                known,
-                Stage::SubClose(former, subs, SubTree::Var { at, name }),
-            ))
-        }
-        Terminal::ConOperator => {
-            let name = name_ref(alloc, token)?;
-            Ok(goes(
-                known,
-                Stage::SubClose(former, subs, SubTree::Con { at, name }),
-            ))
-        }
-        _ => Ok(Turn::Leaves),
+        Terminal::VarOperator => with_var_operator(alloc, known, former, subs, at, token),
+        Terminal::ConOperator => with_con_operator(alloc, known, former, subs, at, token),
+        _ => Ok(leaves(known, Stage::SubRead(former, subs))),
     }
 }
 
@@ -193,7 +251,7 @@ pub fn at_sub_close(
 {
     match terminal {
         Terminal::CloseParen => whole_sub(known, former, subs, sub),
-        _ => Ok(Turn::Leaves),
+        _ => Ok(leaves(known, Stage::SubClose(former, subs, sub))),
     }
 }
 
@@ -210,7 +268,7 @@ pub fn at_sub_read(
     match terminal {
         Terminal::Comma => Ok(goes(known, Stage::SubNext(former, subs))),
         Terminal::CloseParen => whole_former(alloc, known, former, Some(Subs::Listed(subs))),
-        _ => Ok(Turn::Leaves),
+        _ => Ok(leaves(known, Stage::SubRead(former, subs))),
     }
 }
 
@@ -225,6 +283,6 @@ pub fn at_subs_all(
 {
     match terminal {
         Terminal::CloseParen => whole_former(alloc, known, former, Some(Subs::All)),
-        _ => Ok(Turn::Leaves),
+        _ => Ok(leaves(known, Stage::SubsAll(former))),
     }
 }
