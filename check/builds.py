@@ -5,6 +5,7 @@ import re
 from modules import EXTENSIONS, FormReader, Leaves, first_fault, header_of, scope_of
 
 BOOT, REAL = 0, 1
+MOST_NODES = 4096
 SEGMENT = re.compile(rb"[A-Z][A-Za-z0-9_']*\Z")
 PATH = rb'([\x21-\x7e]{1,255})'
 
@@ -54,6 +55,8 @@ class Tree:
         for node in self.nodes:
             self.tell_imports(node)
             self.tell_cycle(node)
+        for node in self.nodes[MOST_NODES:]:
+            self.told[node].add(((1, 1), 'E07', 'too many modules'))
         self.loops = self.loops_of_modules()
         self.needs = {node: self.needs_of(node) for node in self.nodes}
 
@@ -127,13 +130,12 @@ class Tree:
             needed = more
 
     def order(self):
-        listed, left = [], list(self.nodes)
+        listed, left = {}, list(self.nodes)
         while left:
-            ready = [node for node in left if self.needs[node] <= set(listed)]
-            node = (ready or left)[0]
-            listed.append(node)
+            node = next((one for one in left if self.needs[one] <= listed.keys()), left[0])
+            listed[node] = True
             left.remove(node)
-        return listed
+        return list(listed)
 
 
 def checked(tree, node, exports):

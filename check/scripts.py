@@ -44,7 +44,19 @@ class Writer:
         return [self.pick(choices) for _ in range(self.random.randint(least, most))]
 
     def script(self):
+        if self.chance(.0005):
+            return self.many_modules()
         return self.sound_tree() if self.chance(.4) else self.any_tree()
+
+    def many_modules(self):
+        """A tree of about as many modules as a build takes."""
+        numbers = list(range(4096 + self.random.randint(-2, 3)))
+        script = b'flags NoImplicitPrelude\n'
+        for number in self.random.sample(numbers, len(numbers)):
+            other = self.pick(numbers)
+            lines = [f'module M{number} where'] + ([f'import M{other}'] if self.chance(.3) and other < number else [])
+            script += put(path_of(f'M{number}', self.chance(.001)), bytes_of('\n'.join(lines)))
+        return script + b'build 1\nquit\n'
 
     # trees that are sound, or nearly
 
