@@ -35,30 +35,3 @@ pub fn order_exports(a: &Export, b: &Export) -> Ordering
 {
     a.cmp(b)
 }
-
-#[cfg(test)]
-mod tests {
-    use super::*;
-    use crate::samples::{check_plain, name};
-    use mk_base::name::Space;
-
-    #[test]
-    fn exports_are_plain_and_ordered(rt: HostRuntime) {
-        let alone = Export {
-            name: name(&rt, Space::Con, b"Bag"),
-            parent: None,
-        };
-        let owned = Export {
-            name: name(&rt, Space::Con, b"Bag"),
-            parent: Some(name(&rt, Space::Ty, b"Bag")),
-        };
-        let later = Export {
-            name: name(&rt, Space::Con, b"Box"),
-            parent: None,
-        };
-        assert_eq!(rt; order_exports(&alone, &owned), Ordering::Less);
-        assert_eq!(rt; order_exports(&later, &owned), Ordering::Greater);
-        assert_eq!(rt; order_exports(&owned, &owned), Ordering::Equal);
-        check_plain(&rt, owned, alone);
-    }
-}

@@ -39,16 +39,3 @@ impl Plain for Fixity {
         Ok(*self)
     }
 }
-
-#[cfg(test)]
-mod tests {
-    use super::*;
-    use crate::samples::check_plain;
-
-    #[test]
-    fn fixities_are_plain(rt: HostRuntime) {
-        check_plain(&rt, Assoc::Left, Assoc::Neither);
-        let assoc = Assoc::Right;
-        check_plain(&rt, Fixity { assoc, level: 5 }, Fixity { assoc, level: 6 });
-    }
-}

@@ -7,6 +7,4 @@ pub mod face;
 pub mod fixity;
 pub mod inst;
 pub mod result;
-#[cfg(test)]
-mod samples;
 pub mod scheme;

@@ -5,5 +5,3 @@ mod counts;
 mod names;
 mod reasons;
 pub mod report;
-#[cfg(test)]
-mod tests;

@@ -1,0 +1,7 @@
+module Shop.Stock where
+
+import Shop.Item
+
+data Shelf = Shelf Item Item
+
+data Stock = Stock Shelf Shelf
