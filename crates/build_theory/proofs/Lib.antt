@@ -13,3 +13,5 @@ pub mod Example
 pub mod Made
 pub mod Reading
 pub mod Cycles
+pub mod Judged
+pub mod After

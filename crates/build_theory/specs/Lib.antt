@@ -1,4 +1,5 @@
 pub mod Build
 pub mod Laws
 pub mod Machine
+pub mod Judging
 pub mod Example

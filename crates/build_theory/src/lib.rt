@@ -4,6 +4,7 @@
 ghost use Rattle.std.specs.Prelude.{◌≡◌, ℕ, List, [], ◌∷◌, map};
 ghost use Rattle.build_theory.specs.Build.{Behind, Blocked, Checked, Current, Failed, Judged, Language, Sound, Tree, clean, incremental, order, sorted, store_after};
 ghost use Rattle.build_theory.specs.Example.{Interface, Loop, NewSource, NothingKept, Problem, Reason, Source, adding, events, face_of_4, face_of_5, five, last, of_behind, of_loop, of_sound, old_face_of_5};
+ghost use Rattle.build_theory.specs.Judging.{CheckedHasReason, CurrentIsKept, EnvironmentIsWhole, ResultsAreSteps, SoundWasChecked, StoreAfterBuild, StoresByLookup};
 ghost use Rattle.build_theory.specs.Machine.{Event, EverySweepAgrees, NeedsComeFirst, NeedsStandBefore, Run, State, Step, SweepAgrees, SweepAgreesDownward, opening};
 ghost use Rattle.build_theory.specs.Laws.{EmptyStoreIsClean, HistoriesAreClean, IsExact, IsOrdered, LawOfReading, OrderIsByNode, OrderIsWhole, OrderOfFilesIsNothing, StoresChangeNothing, StoresStayHonest};
 
@@ -61,6 +62,41 @@ pub fn sweep_agrees_downward<G, N, S, B, K, E, R>()
 /// In any tree any run of claims, finishes and refusals gives each finished node the result of the incremental build.
 pub fn every_sweep_agrees<G, N, S, B, K, E, R>()
     ensures { (l : Language G N S B K E R) → EverySweepAgrees l }
+{}
+
+/// A sound node of a clean build was checked, without graph errors and with all its needs sound.
+pub fn sound_was_checked<G, N, S, B, K, E, R>()
+    ensures { (l : Language G N S B K E R) → SoundWasChecked l }
+{}
+
+/// The environment in which a node is checked is that of the whole clean build.
+pub fn environment_is_whole<G, N, S, B, K, E, R>()
+    ensures { (l : Language G N S B K E R) → EnvironmentIsWhole l }
+{}
+
+/// A build, and the store behind any builds, depend on a store by its look-ups alone.
+pub fn stores_by_lookup<G, N, S, B, K, E, R>()
+    ensures { (l : Language G N S B K E R) → StoresByLookup l }
+{}
+
+/// Each result of an incremental build is its step from the results before it.
+pub fn results_are_steps<G, N, S, B, K, E, R>()
+    ensures { (l : Language G N S B K E R) → ResultsAreSteps l }
+{}
+
+/// After a build a store has what is kept of each sound interface, and all else is as before.
+pub fn store_after_build<G, N, S, B, K, E, R>()
+    ensures { (l : Language G N S B K E R) → StoreAfterBuild l }
+{}
+
+/// A current node has the interface that was kept.
+pub fn current_is_kept<G, N, S, B, K, E, R>()
+    ensures { (l : Language G N S B K E R) → CurrentIsKept l }
+{}
+
+/// A checked node has the result of its check, for a reason.
+pub fn checked_has_reason<G, N, S, B, K, E, R>()
+    ensures { (l : Language G N S B K E R) → CheckedHasReason l }
 {}
 
 /// A worked example of five nodes: two import each other, one needs those, and of two sound ones one needs the other.

@@ -1,0 +1,4 @@
+pub mod Stages
+pub mod Walks
+pub mod Follows
+pub mod Example

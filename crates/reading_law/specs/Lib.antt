@@ -1,0 +1,4 @@
+pub mod Reading
+pub mod Compose
+pub mod Recheck
+pub mod Example
