@@ -63,7 +63,7 @@ sound_was_checked l exact t m b e =
     subst (λ n. WasChecked l t n b) (sym (exact.tells m f.0.0 f.2)) (all_at (IsChecked l t) (clean l t) f.0 f.1 (all_checked l t (order l (sorted l t)) [] [] refl refl tt) b f.3)
 
 module _ {G N S B K E R : Type 0} (l : Language G N S B K E R) where
-  none_bad : (t : Tree G N S) (m : N) (done : List (N × Outcome N B E)) (qs : List (N × S)) → first_bad l t m done qs ≡ None → (q : N × S) → IsIn q qs → is_need l t m q.0 ≡ true → is_sound_in l done q.0 ≡ true
+  pub none_bad : (t : Tree G N S) (m : N) (done : List (N × Outcome N B E)) (qs : List (N × S)) → first_bad l t m done qs ≡ None → (q : N × S) → IsIn q qs → is_need l t m q.0 ≡ true → is_sound_in l done q.0 ≡ true
   none_bad t m done [] e q i need = absurd i
   none_bad t m done (p ∷ qs) e q i need =
       both_ways (is_need l t m p.0 && not (is_sound_in l done p.0))

@@ -15,3 +15,4 @@ pub mod Reading
 pub mod Cycles
 pub mod Judged
 pub mod After
+pub mod Waits

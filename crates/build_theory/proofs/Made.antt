@@ -9,7 +9,7 @@ use Rattle.build_theory.specs.Build.{Tree, Language, Outcome, Sound, Failed, Blo
 use Rattle.build_theory.specs.Laws.{IsExact}
 use Rattle.build_theory.proofs.Lists.{all_at, lookup_in}
 
-all_add : {X : Type 0} (P : X → Type 0) (xs : List X) (x : X) → AllByRecursion P xs → P x → AllByRecursion P (xs ++ x ∷ [])
+pub all_add : {X : Type 0} (P : X → Type 0) (xs : List X) (x : X) → AllByRecursion P xs → P x → AllByRecursion P (xs ++ x ∷ [])
 all_add P [] x h p = (p, tt)
 all_add P (y ∷ xs) x h p = (h.0, all_add P xs x h.1 p)
 

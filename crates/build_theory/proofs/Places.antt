@@ -25,7 +25,7 @@ module _ {G N S B K E R : Type 0} (l : Language G N S B K E R) (t : Tree G N S) 
       same_if (is_need l t m q.0) (interface_in l q.0 (lookup (l.same q.0) P)) (interface_in l q.0 (lookup (l.same q.0) D)) [] (λ y. ap (interface_in l q.0) (h q.0 y)) in
       ap (λ x. x ++ environment l t m P qs) head ∙ ap (λ x. cond (is_need l t m q.0) (interface_in l q.0 (lookup (l.same q.0) D)) [] ++ x) (environment_same P D m qs h)
 
-  none_bad : (done : List (N × Outcome N B E)) (m : N) (qs : List (N × S)) → ((n : N) → is_need l t m n ≡ true → is_sound_in l done n ≡ true) → first_bad l t m done qs ≡ None
+  pub none_bad : (done : List (N × Outcome N B E)) (m : N) (qs : List (N × S)) → ((n : N) → is_need l t m n ≡ true → is_sound_in l done n ≡ true) → first_bad l t m done qs ≡ None
   none_bad done m [] h = refl
   none_bad done m (q ∷ qs) h = passed (is_need l t m q.0) (is_sound_in l done q.0) (Some q.0) (first_bad l t m done qs) (h q.0) ∙ none_bad done m qs h
 
@@ -39,7 +39,7 @@ module _ {G N S B K E R : Type 0} (l : Language G N S B K E R) (t : Tree G N S) 
       (option_map_or (λ n. record { how = Behind n; outcome = Blocked n }) b (reused l t q env (lookup (l.same q.0) store))) in
       ap (λ b. stage b (environment l t q.0 P t.sources)) first ∙ ap (λ env. stage (first_bad l t q.0 D (order l t)) env) (environment_same P D q.0 t.sources alike)
 
-  at_split : IsExact l → (before : List (N × S)) (q : N × S) (after : List (N × S)) → order l t ≡ before ++ q ∷ after → AllByRecursion (λ p. l.same q.0 p.0 ≡ false) before
+  pub at_split : IsExact l → (before : List (N × S)) (q : N × S) (after : List (N × S)) → order l t ≡ before ++ q ∷ after → AllByRecursion (λ p. l.same q.0 p.0 ≡ false) before
       → lookup (l.same q.0) built ≡ Some (step l t store (outcomes (results l t store [] before)) q)
   at_split exact before q after e once =
       let P = results l t store [] before in
@@ -67,7 +67,7 @@ module _ {G N S B K E R : Type 0} (l : Language G N S B K E R) (t : Tree G N S) 
   distinct_front (k ∷ ks) bs q d = (all_at (λ g. k.0 ≡ g.0 → ⊥) (ks ++ q ∷ bs) q (in_back ks q bs) d.0, distinct_front ks bs q d.1)
 
   -- a node stands once in the order
-  once_before : IsExact l → AreDistinct l t.sources → (before : List (N × S)) (q : N × S) (after : List (N × S)) → order l t ≡ before ++ q ∷ after → AllByRecursion (λ p. l.same q.0 p.0 ≡ false) before
+  pub once_before : IsExact l → AreDistinct l t.sources → (before : List (N × S)) (q : N × S) (after : List (N × S)) → order l t ≡ before ++ q ∷ after → AllByRecursion (λ p. l.same q.0 p.0 ≡ false) before
   once_before exact d before q after e =
       all_map (λ p. p.0 ≡ q.0 → ⊥) (λ p. l.same q.0 p.0 ≡ false) before
       (λ p h. both_ways (l.same q.0 p.0) (λ y. absurd (h (sym (exact.tells q.0 p.0 y)))) (λ y. y))

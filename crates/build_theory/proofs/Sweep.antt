@@ -13,7 +13,7 @@ use Rattle.build_theory.proofs.Places.{built, at_place, graph_at, has_place}
 use Rattle.build_theory.proofs.Behind.{IsPlaced, IsClosed, stands_behind}
 
 module _ {G N S B K E R : Type 0} (l : Language G N S B K E R) (exact : IsExact l) where
-  left_in : (m : N) (cs : List (N × ℕ)) (k : N) (w : ℕ) → lookup (l.same k) (without l m cs) ≡ Some w → (l.same k m ≡ false) × (lookup (l.same k) cs ≡ Some w)
+  pub left_in : (m : N) (cs : List (N × ℕ)) (k : N) (w : ℕ) → lookup (l.same k) (without l m cs) ≡ Some w → (l.same k m ≡ false) × (lookup (l.same k) cs ≡ Some w)
   left_in m [] k w e = absurd (let h : ⊥ = cc in h)
   left_in m (c ∷ cs) k w e =
       both_ways (l.same m c.0)
@@ -50,7 +50,7 @@ module _ {G N S B K E R : Type 0} (l : Language G N S B K E R) (exact : IsExact 
         (λ y. inr (sym (look_no (l.same m) a rest y) ∙ e))
 
     -- what is finished from the start has graph errors
-    failed_found : (m : N) (j : Judged N B E R) (qs : List (N × S)) → lookup (l.same m) (failed_from l t qs) ≡ Some j
+    pub failed_found : (m : N) (j : Judged N B E R) (qs : List (N × S)) → lookup (l.same m) (failed_from l t qs) ≡ Some j
         → (q : N × S) × IsIn q qs × (e : E) × (l.same m q.0 ≡ true) × (l.errors t q.0 q.1 ≡ Some e) × (j ≡ record { how = Graph; outcome = Failed e })
     failed_found m j [] e = absurd (let h : ⊥ = cc in h)
     failed_found m j (q ∷ qs) e = elim (at_failed m j q (l.errors t q.0 q.1) refl (failed_from l t qs) e) [
@@ -61,12 +61,12 @@ module _ {G N S B K E R : Type 0} (l : Language G N S B K E R) (exact : IsExact 
   module _ (t : Tree G N S) (store : List (N × K)) (distinct : AreDistinct l t.sources) where
     -- what is finished is the build's, what is claimed is ready and not finished,
     -- and what is sound stands behind its needs, which are sound
-    record IsOnCourse (s : State N (Judged N B E R)) : Type 0 where
-      good : (m : N) (r : Judged N B E R) → lookup (l.same m) s.finished ≡ Some r → lookup (l.same m) (built l t store) ≡ Some r
-      claims : (k : N) (w : ℕ) → lookup (l.same k) s.claimed ≡ Some w → IsReady l t s.finished k × (lookup (l.same k) s.finished ≡ None)
-      closed : IsClosed l t (is_sound_in l (outcomes s.finished))
+    pub record IsOnCourse (s : State N (Judged N B E R)) : Type 0 where
+      pub good : (m : N) (r : Judged N B E R) → lookup (l.same m) s.finished ≡ Some r → lookup (l.same m) (built l t store) ≡ Some r
+      pub claims : (k : N) (w : ℕ) → lookup (l.same k) s.claimed ≡ Some w → IsReady l t s.finished k × (lookup (l.same k) s.finished ≡ None)
+      pub closed : IsClosed l t (is_sound_in l (outcomes s.finished))
 
-    opens : IsOnCourse (opening l t)
+    pub opens : IsOnCourse (opening l t)
     opens = record {
       good = λ m r e.
           let s = failed_found t m r t.sources e in
@@ -80,7 +80,7 @@ module _ {G N S B K E R : Type 0} (l : Language G N S B K E R) (exact : IsExact 
           absurd (differ (sym h ∙ ap (λ o. option_map_or is_sound o false) found));
     }
 
-    finished_right : (s : State N (Judged N B E R)) → IsOnCourse s → (q : N × S) → IsIn q t.sources → IsReady l t s.finished q.0 → lookup (l.same q.0) s.finished ≡ None
+    pub finished_right : (s : State N (Judged N B E R)) → IsOnCourse s → (q : N × S) → IsIn q t.sources → IsReady l t s.finished q.0 → lookup (l.same q.0) s.finished ≡ None
         → IsPlaced l t q.0 × (lookup (l.same q.0) (built l t store) ≡ Some (step l t store (outcomes s.finished) q))
     finished_right s c q i ready none =
         let other : is_sound_in l (outcomes s.finished) q.0 ≡ false = ap (λ o. option_map_or is_sound o false) (none_judged (l.same q.0) s.finished none) in
@@ -88,7 +88,7 @@ module _ {G N S B K E R : Type 0} (l : Language G N S B K E R) (exact : IsExact 
         (placed, at_place l t store exact q s.finished (has_place l t store exact distinct q i placed) c.good ready)
 
     -- a step of another node leaves what is ready
-    still_ready : (k m : N) (j : Judged N B E R) (done : List (N × Judged N B E R)) → lookup (l.same m) done ≡ None → IsReady l t done k → IsReady l t ((m, j) ∷ done) k
+    pub still_ready : (k m : N) (j : Judged N B E R) (done : List (N × Judged N B E R)) → lookup (l.same m) done ≡ None → IsReady l t done k → IsReady l t ((m, j) ∷ done) k
     still_ready k m j done none ready n need =
         both_ways (l.same n m)
         (λ y.
@@ -97,7 +97,7 @@ module _ {G N S B K E R : Type 0} (l : Language G N S B K E R) (exact : IsExact 
         let k : Some o.0 ≡ None = sym o.1 ∙ gone in cc)
         (λ y. ap (λ x. option_map_or is_sound x false) (look_no (l.same n) (m, j.outcome) (outcomes done) y) ∙ ready n need)
 
-    step_keeps : (s next : State N (Judged N B E R)) (e : Event N (Judged N B E R)) → IsOnCourse s → Step l t store s e next → IsOnCourse next
+    pub step_keeps : (s next : State N (Judged N B E R)) (e : Event N (Judged N B E R)) → IsOnCourse s → Step l t store s e next → IsOnCourse next
     step_keeps s next (Claim w m) i h =
         subst IsOnCourse (sym h.3) (record {
           good = i.good;

@@ -1,9 +1,9 @@
 -- Builds by several workers: claims, finishes and refusals, in any order that the needs allow.
-use Rattle.std.specs.Prelude.{◌≡◌, ℕ, true, false, List, [], ◌∷◌, ◌++◌, Some, None, if◌then◌else◌}
+use Rattle.std.specs.Prelude.{◌≡◌, ◌⊎◌, ◌↔◌, ℕ, true, false, List, [], ◌∷◌, ◌++◌, Some, None, if◌then◌else◌}
 use Rattle.std.specs.declared.option.Option.{Option}
 use Rattle.std.specs.List.{list_any, AllByRecursion}
 use Rattle.std.specs.Map.{lookup}
-use Rattle.build_theory.specs.Build.{Tree, Language, Judged, Graph, Failed, outcomes, is_need, is_sound_in, step, order, incremental, sorted}
+use Rattle.build_theory.specs.Build.{Tree, Language, Judged, Graph, Failed, Blocked, outcomes, is_need, is_sound_in, step, order, incremental, sorted}
 use Rattle.build_theory.specs.Laws.{IsIn, IsOrdered, IsExact, AreDistinct, IsDownward}
 
 -- a worker takes a node, hands its result in, or gives it up for want of memory
@@ -98,3 +98,26 @@ module _ {G N S B K E R : Type 0} (l : Language G N S B K E R) where
   EverySweepAgrees = IsOrdered l → IsExact l → (t : Tree G N S) (store : List (N × K)) → AreDistinct l t.sources
       → (es : List (Event N (Judged N B E R))) (s : State N (Judged N B E R)) → Run (sorted l t) store (opening (sorted l t)) es s
       → (m : N) (j : Judged N B E R) → lookup (l.same m) s.finished ≡ Some j → lookup (l.same m) (incremental l store t) ≡ Some j
+
+  -- nothing more can happen
+  abbrev pub IsOver : Tree G N S → List (N × K) → State N (Judged N B E R) → Type 0
+  IsOver t store s = (e : Event N (Judged N B E R)) (next : State N (Judged N B E R)) → Step t store s e next → ⊥
+
+  -- a node needs one that was given up, or one that is behind such a node
+  pub data IsBehindRefused (t : Tree G N S) (s : State N (Judged N B E R)) : N → Type 0 where
+    needs_refused : {m : N} (n : N) (w : ℕ) → is_need l t m n ≡ true → lookup (l.same n) s.refused ≡ Some w → IsBehindRefused t s m
+    needs_behind : {m : N} (n : N) → is_need l t m n ≡ true → IsBehindRefused t s n → IsBehindRefused t s m
+
+  -- these results have a node blocked
+  pub record IsBlockedIn (rs : List (N × Judged N B E R)) (m : N) : Type 0 where
+    pub judged : Judged N B E R
+    pub by : N
+    pub there : lookup (l.same m) rs ≡ Some judged
+    pub blocked : judged.outcome ≡ Blocked by
+
+  -- A sweep that is over leaves waiting just the nodes that the incremental build blocks, and those, without graph
+  -- errors, that are behind a node that was given up.
+  abbrev pub WaitingAtTheEnd : Type 0
+  WaitingAtTheEnd = IsOrdered l → IsExact l → (t : Tree G N S) (store : List (N × K)) → AreDistinct l t.sources
+      → (es : List (Event N (Judged N B E R))) (s : State N (Judged N B E R)) → Run (sorted l t) store (opening (sorted l t)) es s → IsOver (sorted l t) store s
+      → (q : N × S) → IsIn q t.sources → IsWaiting s q.0 ↔ (IsBlockedIn (incremental l store t) q.0 ⊎ ((l.errors (sorted l t) q.0 q.1 ≡ None) × IsBehindRefused (sorted l t) s q.0))

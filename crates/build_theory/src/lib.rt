@@ -5,7 +5,7 @@ ghost use Rattle.std.specs.Prelude.{◌≡◌, ℕ, List, [], ◌∷◌, map};
 ghost use Rattle.build_theory.specs.Build.{Behind, Blocked, Checked, Current, Failed, Judged, Language, Sound, Tree, clean, incremental, order, sorted, store_after};
 ghost use Rattle.build_theory.specs.Example.{Interface, Loop, NewSource, NothingKept, Problem, Reason, Source, adding, events, face_of_4, face_of_5, five, last, of_behind, of_loop, of_sound, old_face_of_5};
 ghost use Rattle.build_theory.specs.Judging.{CheckedHasReason, CurrentIsKept, EnvironmentIsWhole, ResultsAreSteps, SoundWasChecked, StoreAfterBuild, StoresByLookup};
-ghost use Rattle.build_theory.specs.Machine.{Event, EverySweepAgrees, NeedsComeFirst, NeedsStandBefore, Run, State, Step, SweepAgrees, SweepAgreesDownward, opening};
+ghost use Rattle.build_theory.specs.Machine.{Event, EverySweepAgrees, NeedsComeFirst, NeedsStandBefore, Run, State, Step, SweepAgrees, SweepAgreesDownward, WaitingAtTheEnd, opening};
 ghost use Rattle.build_theory.specs.Laws.{EmptyStoreIsClean, HistoriesAreClean, IsExact, IsOrdered, LawOfReading, OrderIsByNode, OrderIsWhole, OrderOfFilesIsNothing, StoresChangeNothing, StoresStayHonest};
 
 /// A build over an empty store has the outcomes of the clean build.
@@ -62,6 +62,12 @@ pub fn sweep_agrees_downward<G, N, S, B, K, E, R>()
 /// In any tree any run of claims, finishes and refusals gives each finished node the result of the incremental build.
 pub fn every_sweep_agrees<G, N, S, B, K, E, R>()
     ensures { (l : Language G N S B K E R) → EverySweepAgrees l }
+{}
+
+/// A run after which nothing more can happen leaves waiting just the nodes that the incremental build blocks, and those
+/// behind a node that was given up.
+pub fn over_leaves_the_blocked<G, N, S, B, K, E, R>()
+    ensures { (l : Language G N S B K E R) → WaitingAtTheEnd l }
 {}
 
 /// A sound node of a clean build was checked, without graph errors and with all its needs sound.
