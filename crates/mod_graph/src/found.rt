@@ -2,7 +2,7 @@
 ghost use Rattle.std.specs.Prelude.{◌≡◌};
 ghost use Rattle.mod_graph.specs.Found.{as_found, found_in, found_outside};
 
-use crate::packages::{Packages, first_package};
+use package_graph::packages::{Packages, first_package};
 use crate::places::{Numbers, module_number};
 use mk_base::text::Text;
 

@@ -1,5 +1,5 @@
 use Rattle.std.proofs.Common.{◌≡◌, ℕ, length, take}
-use Rattle.number_set.specs.Bits.{has, room, room_for}
+use Rattle.numbered_nodes.specs.Bits.{has, room, room_for}
 use Rattle.mod_graph.specs.Environments.{imports_in}
 use Rattle.mod_graph.proofs.reached.own_row.Given as goal
 

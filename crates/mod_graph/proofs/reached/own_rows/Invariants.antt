@@ -1,6 +1,6 @@
 use Rattle.std.proofs.Common.{◌≡◌, ◌<◌, ℕ, [], length, get_or}
-use Rattle.number_set.specs.Bits.{has, room_for}
-use Rattle.node_reach.specs.Edges.{HaveRoom}
+use Rattle.numbered_nodes.specs.Bits.{has, room_for}
+use Rattle.numbered_nodes.specs.Edges.{HaveRoom}
 use Rattle.mod_graph.specs.Environments.{own_in}
 use Rattle.mod_graph.proofs.reached.own_rows.Given as goal
 
