@@ -1,5 +1,5 @@
 -- What is kept of the modules of packages.
-use Rattle.std.specs.Prelude.{◌≡◌, ◌↔◌, ◌<◌, ℕ, true, List, length, slice_get, Some, None, Option}
+use Rattle.std.specs.Prelude.{◌≡◌, ◌↔◌, ◌<◌, ℕ, true, List, length, slice_get, Some, Option}
 use Rattle.indexmap.specs.IndexMap.{get}
 use Rattle.numbered_nodes.specs.Bits.{room_for}
 use Rattle.numbered_nodes.specs.Edges.{Relates, HaveRoom}
