@@ -17,7 +17,7 @@ use Rattle.mod_graph.specs.declared.rows.Rows.{Rows}
 use Rattle.numbered_nodes.specs.Chains.{any_below, below}
 use Rattle.mod_graph.specs.Edges.{module_number, needs}
 use Rattle.package_graph.specs.Environments.{among}
-use Rattle.mod_graph.specs.Environments.{brings_in, imports_in, own_in}
+use Rattle.mod_graph.specs.Environments.{brings_in, imports_bring, own_brings}
 use Rattle.mod_graph.specs.Errors.{Found, InTree, InPackage, InPrim, Nowhere, look_up, outside_tree}
 use Rattle.mod_graph.specs.Found.{found_at, found_outside, found_in}
 use Rattle.mod_graph.specs.Graph.{Input, entries, brings, imports_package, in_environment}
@@ -35,14 +35,14 @@ adds_none false c e = sym e
 
 -- the row of one node more
 pub rows_next : (n : Numbers) (t : Packages) (es : List Entry) (old new : List (List ℕ)) (row : List ℕ) (i : ℕ) (e : Entry) → i < length es → e ≡ get_or es i e → length old ≡ i → new ≡ old ++ row ∷ []
-    → ((k : ℕ) → has row k ≡ imports_in n t e.imports k) → ((a k : ℕ) → a < i → has (get_or old a []) k ≡ own_in n t es a k) → (a k : ℕ) → a < i + 1 → has (get_or new a []) k ≡ own_in n t es a k
+    → ((k : ℕ) → has row k ≡ imports_bring n t e.imports k) → ((a k : ℕ) → a < i → has (get_or old a []) k ≡ own_brings n t es a k) → (a k : ℕ) → a < i + 1 → has (get_or new a []) k ≡ own_brings n t es a k
 rows_next n t es old new row i e lt is len pushed right before a k less = elim (cases_lt a i) [
   | inl h ↦ ap (λ l. has (get_or l a []) k) pushed ∙ ap (λ r. has r k) (get_or_append_left old (row ∷ []) [] a (omega arith)) ∙ before a k h
   | inr h ↦
       let same : a ≡ i = omega arith in
       let at : slice_get es i ≡ Some e = slice_get_read es (length es) i e refl lt is in
       ap (λ l. has (get_or l a []) k) pushed ∙ ap (λ r. has r k) (get_or_push old row [] a (omega arith)) ∙ right k
-      ∙ sym (ap (λ b. own_in n t es b k) same ∙ ap (λ o. option_map_or (λ (f : Entry). imports_in n t f.imports k) o false) at)
+      ∙ sym (ap (λ b. own_brings n t es b k) same ∙ ap (λ o. option_map_or (λ (f : Entry). imports_bring n t f.imports k) o false) at)
 ]
 
 -- what is found by the tables is what the definition finds
@@ -80,14 +80,14 @@ module _ (i : Input) (n : Numbers) (r : Rows) (t : Packages) (numbers : AreNumbe
       let m : List ℕ = y.«module».text in
       ap (λ f. brings_in t f k) (found_is n t (entries i) i.packages m numbers tables) ∙ brings_same m (look_up (entries i) i.packages m) k lt refl
 
-  imports_same : (k : ℕ) → k < length i.packages → (ys : List ImportItem) → imports_in n t ys k ≡ list_any (λ (y : ImportItem). brings i (look_up (entries i) i.packages y.«module».text) k) ys
+  imports_same : (k : ℕ) → k < length i.packages → (ys : List ImportItem) → imports_bring n t ys k ≡ list_any (λ (y : ImportItem). brings i (look_up (entries i) i.packages y.«module».text) k) ys
   imports_same k lt ys = λ j. list_any (λ (y : ImportItem). import_same y k lt j) ys
 
-  own_same : (a k : ℕ) → k < length i.packages → own_in n t (entries i) a k ≡ option_map_or (imports_package i k) (slice_get (entries i) a) false
+  own_same : (a k : ℕ) → k < length i.packages → own_brings n t (entries i) a k ≡ option_map_or (imports_package i k) (slice_get (entries i) a) false
   own_same a k lt = λ j. option_map_or (λ (e : Entry). imports_same k lt e.imports j) (slice_get (entries i) a) false
 
   -- the joined rows are the environments
-  pub among_same : (own : List (List ℕ)) (a k : ℕ) → length own ≡ length (entries i) → ((b l : ℕ) → b < length (entries i) → has (get_or own b []) l ≡ own_in n t (entries i) b l) → a < length (entries i) → k < length i.packages
+  pub among_same : (own : List (List ℕ)) (a k : ℕ) → length own ≡ length (entries i) → ((b l : ℕ) → b < length (entries i) → has (get_or own b []) l ≡ own_brings n t (entries i) b l) → a < length (entries i) → k < length i.packages
       → among own (get_or r.needs.items a []) a k ≡ in_environment i a k
   among_same own a k len right at lt =
       let here : has (get_or own a []) k ≡ option_map_or (imports_package i k) (slice_get (entries i) a) false = right a k at ∙ own_same a k lt in
@@ -101,7 +101,7 @@ module _ (i : Input) (n : Numbers) (r : Rows) (t : Packages) (numbers : AreNumbe
 
 -- the lists of the environments of all nodes
 environments_at : (i : Input) (n : Numbers) (r : Rows) (t : Packages) (own made : List (List ℕ)) (count : ℕ) → AreNumbers n (entries i) → AreRows r (entries i) → AreTables t i.packages
-    → length own ≡ length (entries i) → ((a k : ℕ) → a < length (entries i) → has (get_or own a []) k ≡ own_in n t (entries i) a k) → count ≡ length t.rows.items
+    → length own ≡ length (entries i) → ((a k : ℕ) → a < length (entries i) → has (get_or own a []) k ≡ own_brings n t (entries i) a k) → count ≡ length t.rows.items
     → length made ≡ length (entries i) → ((a : ℕ) → a < length (entries i) → get_or made a [] ≡ below count (among own (get_or r.needs.items a []) a))
     → made ≡ map (λ a. below (length i.packages) (in_environment i a)) (range_with_len 0 (length (entries i)))
 environments_at i n r t own made count numbers rows tables len right counted long at =
@@ -110,11 +110,11 @@ environments_at i n r t own made count numbers rows tables len right counted lon
     ∙ below_alike (length i.packages) (among own (get_or r.needs.items a []) a) (in_environment i a) (λ k. among_same i n r t numbers rows tables own a k len right lt))
 
 pub environments_are : (i : Input) (n : Numbers) (r : Rows) (t : Packages) (es : List Entry) (own made : List (List ℕ)) (count : ℕ) → es ≡ entries i → AreNumbers n es → AreRows r es → AreTables t i.packages
-    → length own ≡ length es → ((a k : ℕ) → a < length es → has (get_or own a []) k ≡ own_in n t es a k) → count ≡ length t.rows.items
+    → length own ≡ length es → ((a k : ℕ) → a < length es → has (get_or own a []) k ≡ own_brings n t es a k) → count ≡ length t.rows.items
     → length made ≡ length es → ((a : ℕ) → a < length es → get_or made a [] ≡ below count (among own (get_or r.needs.items a []) a))
     → made ≡ map (λ a. below (length i.packages) (in_environment i a)) (range_with_len 0 (length es))
 environments_are i n r t es own made count e numbers rows tables len right counted long at =
     environments_at i n r t own made count (subst (AreNumbers n) e numbers) (subst (AreRows r) e rows) tables (len ∙ ap length e)
-    (subst (λ (l : List Entry). (a k : ℕ) → a < length l → has (get_or own a []) k ≡ own_in n t l a k) e right) counted (long ∙ ap length e)
+    (subst (λ (l : List Entry). (a k : ℕ) → a < length l → has (get_or own a []) k ≡ own_brings n t l a k) e right) counted (long ∙ ap length e)
     (subst (λ (l : List Entry). (a : ℕ) → a < length l → get_or made a [] ≡ below count (among own (get_or r.needs.items a []) a)) e at)
     ∙ ap (λ (l : List Entry). map (λ a. below (length i.packages) (in_environment i a)) (range_with_len 0 (length l))) (sym e)

@@ -17,9 +17,9 @@ brings_in t (InPackage j) k = has (get_or t.rows.items j []) k
 brings_in t _ k = false
 
 -- some of the imports is of such a module
-abbrev pub imports_in : Numbers → Packages → List ImportItem → ℕ → Bool
-imports_in n t ys k = list_any (λ (y : ImportItem). brings_in t (found_in n t y.«module».text) k) ys
+abbrev pub imports_bring : Numbers → Packages → List ImportItem → ℕ → Bool
+imports_bring n t ys k = list_any (λ (y : ImportItem). brings_in t (found_in n t y.«module».text) k) ys
 
 -- the same of the imports of a node
-abbrev pub own_in : Numbers → Packages → List Entry → ℕ → ℕ → Bool
-own_in n t es a k = option_map_or (λ (e : Entry). imports_in n t e.imports k) (slice_get es a) false
+abbrev pub own_brings : Numbers → Packages → List Entry → ℕ → ℕ → Bool
+own_brings n t es a k = option_map_or (λ (e : Entry). imports_bring n t e.imports k) (slice_get es a) false

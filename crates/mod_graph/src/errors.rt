@@ -16,7 +16,6 @@ ghost use Rattle.std.specs.Prelude.{List as Row};
 
 use crate::entries::Entry;
 use crate::found::{Found, find_module};
-use package_graph::packages::Packages;
 use crate::places::{Numbers, node_number};
 use crate::rows::Rows;
 use hs_syntax::header::ImportItem;
@@ -28,6 +27,7 @@ use mk_base::place::Pos;
 use mk_base::plain::copied_items;
 use mk_base::text::Text;
 use numbered_nodes::sets::NumberSet;
+use package_graph::packages::Packages;
 use std::alloc::Global;
 
 /// The first place of a source.

@@ -12,9 +12,7 @@ ghost use Rattle.package_graph.specs.Tables.{first_in};
 
 use crate::entries::entries_of;
 use crate::input::{HeaderOf, ViewOf};
-use package_graph::modules::PackageModule;
 use crate::lists::{Lists, lists_of};
-use package_graph::packages::{Packages, first_package, packages_of};
 use crate::places::{Numbers, module_number, node_number, numbers_of};
 use crate::rows::{Rows, rows_of};
 use mk_base::diag::Diag;
@@ -24,6 +22,8 @@ use mk_base::name::{ModName, Node};
 use mk_base::place::NodeId;
 use mk_base::plain::Plain;
 use mk_base::text::Text;
+use package_graph::modules::PackageModule;
+use package_graph::packages::{Packages, first_package, packages_of};
 use std::alloc::Global;
 
 /// The graph of a tree's modules and of the packages beside it.

@@ -4,13 +4,13 @@
 pub mod distinct;
 pub mod edges;
 pub mod entries;
-pub mod errors;
-pub mod found;
+mod errors;
+mod found;
 pub mod graph;
 pub mod input;
 pub mod law;
-pub mod lists;
+mod lists;
 pub mod places;
 pub mod prelude;
-pub mod reached;
-pub mod rows;
+mod reached;
+mod rows;

@@ -14,7 +14,6 @@ ghost use Rattle.package_graph.specs.declared.modules.PackageModule.{PackageModu
 
 use crate::entries::Entry;
 use crate::errors::node_errors;
-use package_graph::packages::Packages;
 use crate::places::Numbers;
 use crate::reached::reached_packages;
 use crate::rows::Rows;
@@ -25,6 +24,7 @@ use mk_base::name::Node;
 use mk_base::place::NodeId;
 use mk_base::plain::Plain;
 use numbered_nodes::sets::NumberSet;
+use package_graph::packages::Packages;
 use std::alloc::Global;
 
 /// The nodes in their order, for each place what its node needs, its diagnostics and the package modules that it reaches,

@@ -4,7 +4,7 @@ ghost use Rattle.std.specs.List.{range_with_len};
 ghost use Rattle.numbered_nodes.specs.Bits.{has, room, room_for};
 ghost use Rattle.numbered_nodes.specs.Edges.{HaveRoom};
 ghost use Rattle.numbered_nodes.specs.Chains.{below};
-ghost use Rattle.mod_graph.specs.Environments.{brings_in, imports_in, own_in};
+ghost use Rattle.mod_graph.specs.Environments.{brings_in, imports_bring, own_brings};
 ghost use Rattle.mod_graph.specs.Found.{found_in};
 ghost use Rattle.mod_graph.specs.Graph.{Input, entries as entries_in, in_environment};
 ghost use Rattle.mod_graph.specs.Places.{AreNumbers};
@@ -13,8 +13,6 @@ ghost use Rattle.package_graph.specs.Tables.{AreTables};
 
 use crate::entries::Entry;
 use crate::found::{Found, find_module};
-use package_graph::environments::environments;
-use package_graph::packages::Packages;
 use crate::places::Numbers;
 use crate::rows::Rows;
 use hs_syntax::header::ImportItem;
@@ -22,6 +20,8 @@ use mk_base::list::List;
 use mk_base::memory::NoMemory;
 use mk_base::text::Text;
 use numbered_nodes::sets::NumberSet;
+use package_graph::environments::environments;
+use package_graph::packages::Packages;
 use std::alloc::Global;
 
 /// Puts what a module of this name reaches into the row, where it is a package's.
@@ -45,7 +45,7 @@ fn own_row(
     imports: &[ImportItem],
 ) -> Result<NumberSet, NoMemory>
     ensures room { IfOk result (λ s. room s ≡ room_for (length packages.now.rows.items)) }
-    ensures has { IfOk result (λ s. (k : ℕ) → has s k ≡ imports_in numbers.now packages.now imports.now k) }
+    ensures has { IfOk result (λ s. (k : ℕ) → has s k ≡ imports_bring numbers.now packages.now imports.now k) }
 {
     let mut row = NumberSet::empty(alloc, packages.rows.len())?;
     for import in imports {
@@ -63,7 +63,7 @@ fn own_rows(
 ) -> Result<Vec<NumberSet>, NoMemory>
     ensures len { IfOk result (λ v. length v.items ≡ length entries.now) }
     ensures room { IfOk result (λ v. HaveRoom (room_for (length packages.now.rows.items)) v.items) }
-    ensures has { IfOk result (λ v. (a k : ℕ) → a < length entries.now → has (get_or v.items a []) k ≡ own_in numbers.now packages.now entries.now a k) }
+    ensures has { IfOk result (λ v. (a k : ℕ) → a < length entries.now → has (get_or v.items a []) k ≡ own_brings numbers.now packages.now entries.now a k) }
 {
     let mut rows = Vec::new(alloc);
     for entry in entries {
@@ -87,5 +87,6 @@ pub fn reached_packages(
         → v.items ≡ map (λ a. below (length i.packages) (in_environment i a)) (range_with_len 0 (length entries.now))) }
 {
     let own = own_rows(alloc, entries, numbers, packages)?;
-    environments(alloc, &own, &rows.needs, packages.rows.len())
+    let reached = environments(alloc, &own, &rows.needs, packages.rows.len())?;
+    Ok(reached)
 }
