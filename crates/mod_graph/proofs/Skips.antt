@@ -40,7 +40,7 @@ stands s false e f = e
 
 module _ (p : ℕ → Bool) where
   pub ids_found : (a b : ℕ) (xs ys : List NodeId) (x : NodeId) → ids xs ≡ below a p → a ≤ b → NoneFrom p a b → p b ≡ true → ys ≡ xs ++ x ∷ [] → x.0 ≡ b → ids ys ≡ below (b + 1) p
-  ids_found a b xs ys x before le none there push same = below_push p b xs ys x (before ∙ sym (below_skip a b le none)) there push same
+  ids_found a b xs ys x before le none there push same = below_push p b xs ys x (before ∙ sym (below_skip p a b le none)) there push same
 
 -- the place of one more number in the row
 pub place_found : (row places : List ℕ) (a b k : ℕ) (old new : Bool) → a ≤ b → NoneFrom (has row) a b → has row b ≡ true
