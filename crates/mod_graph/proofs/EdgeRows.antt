@@ -8,7 +8,7 @@ use Rattle.std.proofs.lemmas.Bool.{cond-true, cond-false, eqb-true, eq-eqb, ne_e
 use Rattle.std.proofs.lemmas.List.{get_or-set_same, get_or-set_other}
 use Rattle.std.proofs.lemmas.List.Elements.{All-map}
 use Rattle.std.proofs.lemmas.List.Folds.{list_any-append, list_any_at, Any-from_list_any}
-use Rattle.node_reach.specs.Edges.{HasEdge}
+use Rattle.numbered_nodes.specs.Edges.{HasEdge}
 use Rattle.hs_syntax.specs.declared.header.ImportItem.{ImportItem}
 use Rattle.mod_graph.specs.declared.entries.Entry.{Entry}
 use Rattle.mod_graph.specs.declared.places.Numbers.{Numbers}

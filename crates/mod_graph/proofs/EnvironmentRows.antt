@@ -7,25 +7,27 @@ use Rattle.std.proofs.lemmas.Bool.{cases_lt}
 use Rattle.std.proofs.lemmas.Option.{slice_get_read}
 use Rattle.std.proofs.lemmas.List.{get_or_append_left, get_or_push}
 use Rattle.std.proofs.lemmas.List.FromFn.{fill_by_all}
-use Rattle.number_set.specs.Bits.{has}
+use Rattle.numbered_nodes.specs.Bits.{has}
 use Rattle.hs_syntax.specs.declared.header.ImportItem.{ImportItem}
 use Rattle.mod_graph.specs.declared.entries.Entry.{Entry}
-use Rattle.mod_graph.specs.declared.packages.Packages.{Packages}
+use Rattle.package_graph.specs.declared.packages.Packages.{Packages}
 use Rattle.mod_graph.specs.declared.places.Numbers.{Numbers}
-use Rattle.mod_graph.specs.declared.input.PackageModule.{PackageModule}
+use Rattle.package_graph.specs.declared.modules.PackageModule.{PackageModule}
 use Rattle.mod_graph.specs.declared.rows.Rows.{Rows}
-use Rattle.mod_graph.specs.Chains.{any_below, below}
+use Rattle.numbered_nodes.specs.Chains.{any_below, below}
 use Rattle.mod_graph.specs.Edges.{module_number, needs}
-use Rattle.mod_graph.specs.Environments.{brings_in, imports_in, own_in, among}
+use Rattle.package_graph.specs.Environments.{among}
+use Rattle.mod_graph.specs.Environments.{brings_in, imports_bring, own_brings}
 use Rattle.mod_graph.specs.Errors.{Found, InTree, InPackage, InPrim, Nowhere, look_up, outside_tree}
 use Rattle.mod_graph.specs.Found.{found_at, found_outside, found_in}
 use Rattle.mod_graph.specs.Graph.{Input, entries, brings, imports_package, in_environment}
 use Rattle.mod_graph.specs.Names.{same_text}
-use Rattle.mod_graph.specs.Packages.{first_package, has_package}
+use Rattle.package_graph.specs.Packages.{first_package, has_package}
 use Rattle.mod_graph.specs.Places.{AreNumbers}
 use Rattle.mod_graph.specs.Rows.{AreRows}
-use Rattle.mod_graph.specs.Tables.{AreTables}
-use Rattle.mod_graph.proofs.PackageRows.{position_below, same_tests}
+use Rattle.package_graph.specs.Tables.{AreTables}
+use Rattle.numbered_nodes.proofs.Below.{any_below_alike, below_alike, same_tests}
+use Rattle.package_graph.proofs.PackageRows.{position_below}
 
 pub adds_none : (b c : Bool) → c ≡ false → b ≡ (b || c)
 adds_none true c e = refl
@@ -33,24 +35,15 @@ adds_none false c e = sym e
 
 -- the row of one node more
 pub rows_next : (n : Numbers) (t : Packages) (es : List Entry) (old new : List (List ℕ)) (row : List ℕ) (i : ℕ) (e : Entry) → i < length es → e ≡ get_or es i e → length old ≡ i → new ≡ old ++ row ∷ []
-    → ((k : ℕ) → has row k ≡ imports_in n t e.imports k) → ((a k : ℕ) → a < i → has (get_or old a []) k ≡ own_in n t es a k) → (a k : ℕ) → a < i + 1 → has (get_or new a []) k ≡ own_in n t es a k
+    → ((k : ℕ) → has row k ≡ imports_bring n t e.imports k) → ((a k : ℕ) → a < i → has (get_or old a []) k ≡ own_brings n t es a k) → (a k : ℕ) → a < i + 1 → has (get_or new a []) k ≡ own_brings n t es a k
 rows_next n t es old new row i e lt is len pushed right before a k less = elim (cases_lt a i) [
   | inl h ↦ ap (λ l. has (get_or l a []) k) pushed ∙ ap (λ r. has r k) (get_or_append_left old (row ∷ []) [] a (omega arith)) ∙ before a k h
   | inr h ↦
       let same : a ≡ i = omega arith in
       let at : slice_get es i ≡ Some e = slice_get_read es (length es) i e refl lt is in
       ap (λ l. has (get_or l a []) k) pushed ∙ ap (λ r. has r k) (get_or_push old row [] a (omega arith)) ∙ right k
-      ∙ sym (ap (λ b. own_in n t es b k) same ∙ ap (λ o. option_map_or (λ (f : Entry). imports_in n t f.imports k) o false) at)
+      ∙ sym (ap (λ b. own_brings n t es b k) same ∙ ap (λ o. option_map_or (λ (f : Entry). imports_bring n t f.imports k) o false) at)
 ]
-
--- tests that agree below a bound
-any_below_same : (n : ℕ) (p q : ℕ → Bool) → ((k : ℕ) → k < n → p k ≡ q k) → any_below n p ≡ any_below n q
-any_below_same zero p q f = refl
-any_below_same (suc n) p q f = ap (λ b. b || p n) (any_below_same n p q (λ k h. f k (omega arith))) ∙ ap (λ b. any_below n q || b) (f n (omega arith))
-
-pub below_same : (n : ℕ) (p q : ℕ → Bool) → ((k : ℕ) → k < n → p k ≡ q k) → below n p ≡ below n q
-below_same zero p q f = refl
-below_same (suc n) p q f = ap (λ l. l ++ (if p n then n ∷ [] else [])) (below_same n p q (λ k h. f k (omega arith))) ∙ ap (λ b. below n q ++ (if b then n ∷ [] else [])) (f n (omega arith))
 
 -- what is found by the tables is what the definition finds
 found_elsewhere : (es : List Entry) (ps : List PackageModule) (m : List ℕ) (o : Option ℕ) → found_at m o ≡ outside_tree es ps m o
@@ -87,14 +80,14 @@ module _ (i : Input) (n : Numbers) (r : Rows) (t : Packages) (numbers : AreNumbe
       let m : List ℕ = y.«module».text in
       ap (λ f. brings_in t f k) (found_is n t (entries i) i.packages m numbers tables) ∙ brings_same m (look_up (entries i) i.packages m) k lt refl
 
-  imports_same : (k : ℕ) → k < length i.packages → (ys : List ImportItem) → imports_in n t ys k ≡ list_any (λ (y : ImportItem). brings i (look_up (entries i) i.packages y.«module».text) k) ys
+  imports_same : (k : ℕ) → k < length i.packages → (ys : List ImportItem) → imports_bring n t ys k ≡ list_any (λ (y : ImportItem). brings i (look_up (entries i) i.packages y.«module».text) k) ys
   imports_same k lt ys = λ j. list_any (λ (y : ImportItem). import_same y k lt j) ys
 
-  own_same : (a k : ℕ) → k < length i.packages → own_in n t (entries i) a k ≡ option_map_or (imports_package i k) (slice_get (entries i) a) false
+  own_same : (a k : ℕ) → k < length i.packages → own_brings n t (entries i) a k ≡ option_map_or (imports_package i k) (slice_get (entries i) a) false
   own_same a k lt = λ j. option_map_or (λ (e : Entry). imports_same k lt e.imports j) (slice_get (entries i) a) false
 
   -- the joined rows are the environments
-  pub among_same : (own : List (List ℕ)) (a k : ℕ) → length own ≡ length (entries i) → ((b l : ℕ) → b < length (entries i) → has (get_or own b []) l ≡ own_in n t (entries i) b l) → a < length (entries i) → k < length i.packages
+  pub among_same : (own : List (List ℕ)) (a k : ℕ) → length own ≡ length (entries i) → ((b l : ℕ) → b < length (entries i) → has (get_or own b []) l ≡ own_brings n t (entries i) b l) → a < length (entries i) → k < length i.packages
       → among own (get_or r.needs.items a []) a k ≡ in_environment i a k
   among_same own a k len right at lt =
       let here : has (get_or own a []) k ≡ option_map_or (imports_package i k) (slice_get (entries i) a) false = right a k at ∙ own_same a k lt in
@@ -104,24 +97,24 @@ module _ (i : Input) (n : Numbers) (r : Rows) (t : Packages) (numbers : AreNumbe
       ap (λ x. x || any_below (length own) (λ b. has (get_or r.needs.items a []) b && has (get_or own b []) k)) here
       ∙ ap (λ x. option_map_or (imports_package i k) (slice_get (entries i) a) false || x)
       (ap (λ m. any_below m (λ b. has (get_or r.needs.items a []) b && has (get_or own b []) k)) len
-      ∙ any_below_same (length (entries i)) (λ b. has (get_or r.needs.items a []) b && has (get_or own b []) k) (λ b. needs (entries i) a b && option_map_or (imports_package i k) (slice_get (entries i) b) false) needed)
+      ∙ any_below_alike (length (entries i)) (λ b. has (get_or r.needs.items a []) b && has (get_or own b []) k) (λ b. needs (entries i) a b && option_map_or (imports_package i k) (slice_get (entries i) b) false) needed)
 
 -- the lists of the environments of all nodes
 environments_at : (i : Input) (n : Numbers) (r : Rows) (t : Packages) (own made : List (List ℕ)) (count : ℕ) → AreNumbers n (entries i) → AreRows r (entries i) → AreTables t i.packages
-    → length own ≡ length (entries i) → ((a k : ℕ) → a < length (entries i) → has (get_or own a []) k ≡ own_in n t (entries i) a k) → count ≡ length t.rows.items
+    → length own ≡ length (entries i) → ((a k : ℕ) → a < length (entries i) → has (get_or own a []) k ≡ own_brings n t (entries i) a k) → count ≡ length t.rows.items
     → length made ≡ length (entries i) → ((a : ℕ) → a < length (entries i) → get_or made a [] ≡ below count (among own (get_or r.needs.items a []) a))
     → made ≡ map (λ a. below (length i.packages) (in_environment i a)) (range_with_len 0 (length (entries i)))
 environments_at i n r t own made count numbers rows tables len right counted long at =
     fill_by_all (λ a. below (length i.packages) (in_environment i a)) made (length (entries i)) [] long
     (λ a lt. at a lt ∙ ap (λ m. below m (among own (get_or r.needs.items a []) a)) (counted ∙ tables.count)
-    ∙ below_same (length i.packages) (among own (get_or r.needs.items a []) a) (in_environment i a) (λ k. among_same i n r t numbers rows tables own a k len right lt))
+    ∙ below_alike (length i.packages) (among own (get_or r.needs.items a []) a) (in_environment i a) (λ k. among_same i n r t numbers rows tables own a k len right lt))
 
 pub environments_are : (i : Input) (n : Numbers) (r : Rows) (t : Packages) (es : List Entry) (own made : List (List ℕ)) (count : ℕ) → es ≡ entries i → AreNumbers n es → AreRows r es → AreTables t i.packages
-    → length own ≡ length es → ((a k : ℕ) → a < length es → has (get_or own a []) k ≡ own_in n t es a k) → count ≡ length t.rows.items
+    → length own ≡ length es → ((a k : ℕ) → a < length es → has (get_or own a []) k ≡ own_brings n t es a k) → count ≡ length t.rows.items
     → length made ≡ length es → ((a : ℕ) → a < length es → get_or made a [] ≡ below count (among own (get_or r.needs.items a []) a))
     → made ≡ map (λ a. below (length i.packages) (in_environment i a)) (range_with_len 0 (length es))
 environments_are i n r t es own made count e numbers rows tables len right counted long at =
     environments_at i n r t own made count (subst (AreNumbers n) e numbers) (subst (AreRows r) e rows) tables (len ∙ ap length e)
-    (subst (λ (l : List Entry). (a k : ℕ) → a < length l → has (get_or own a []) k ≡ own_in n t l a k) e right) counted (long ∙ ap length e)
+    (subst (λ (l : List Entry). (a k : ℕ) → a < length l → has (get_or own a []) k ≡ own_brings n t l a k) e right) counted (long ∙ ap length e)
     (subst (λ (l : List Entry). (a : ℕ) → a < length l → get_or made a [] ≡ below count (among own (get_or r.needs.items a []) a)) e at)
     ∙ ap (λ (l : List Entry). map (λ a. below (length i.packages) (in_environment i a)) (range_with_len 0 (length l))) (sym e)

@@ -3,9 +3,9 @@ use Rattle.std.proofs.Common.{◌≡◌, ℕ, zero, suc, ◌+◌, ◌<◌, ◌�
 use Rattle.std.specs.List.{Contains}
 use Rattle.std.proofs.lemmas.Bool.{cases_eq, cases_lt}
 use Rattle.std.proofs.lemmas.List.{get_or-take, length-take-le}
-use Rattle.number_set.proofs.Booleans.{both_ways, not_true}
-use Rattle.node_order.specs.Order.{IsReady, IsOrder, IsFree}
-use Rattle.node_order.proofs.OrderLaws.{behind}
+use Rattle.numbered_nodes.proofs.Booleans.{both_ways, not_true}
+use Rattle.numbered_nodes.specs.Order.{IsReady, IsOrder, IsCycleFree}
+use Rattle.numbered_nodes.proofs.OrderLaws.{behind}
 
 -- how many numbers below a bound pass
 abbrev count : (ℕ → Bool) → ℕ → ℕ
@@ -39,19 +39,19 @@ module _ (e : ℕ → ℕ → Bool) (n : ℕ) (chain : (a b c : ℕ) → e a b �
   abbrev Need : ℕ → ℕ → Type 0
   Need a b = e a b ≡ true
 
-  free_closed : (a b : ℕ) → IsFree Need n a → b < n → Need a b → IsFree Need n b
+  free_closed : (a b : ℕ) → IsCycleFree Need n a → b < n → Need a b → IsCycleFree Need n b
   free_closed a b f lb need = ((λ self. f.1 b lb need self), (λ y ly more self. f.1 y ly (chain a b y need more) self))
 
-  falls : (a b : ℕ) → IsFree Need n a → b < n → Need a b → count (e b) n < count (e a) n
+  falls : (a b : ℕ) → IsCycleFree Need n a → b < n → Need a b → count (e b) n < count (e a) n
   falls a b f lb need =
       let less = count_less (e b) (e a) n b (λ j more. chain a b j need more) lb (not_true (e b b) (λ self. f.1 b lb need self)) need in
       omega arith
 
-  pub free_ready : (os : List ℕ) → IsOrder Need n os → (i : ℕ) → i < n → IsFree Need n (get_or os i 0) → IsReady Need n (Contains (take i os)) (get_or os i 0)
-  free_ready os p i lt free = behind Need n (IsFree Need n) free_closed (λ a. count (e a) n) falls os p i lt free
+  pub free_ready : (os : List ℕ) → IsOrder Need n os → (i : ℕ) → i < n → IsCycleFree Need n (get_or os i 0) → IsReady Need n (Contains (take i os)) (get_or os i 0)
+  free_ready os p i lt free = behind Need n (IsCycleFree Need n) free_closed (λ a. count (e a) n) falls os p i lt free
 
   -- so its needs stand at lesser places
-  pub free_behind : (os : List ℕ) → IsOrder Need n os → (j k : ℕ) → j < n → k < n → IsFree Need n (get_or os k 0) → Need (get_or os k 0) (get_or os j 0) → j < k
+  pub free_behind : (os : List ℕ) → IsOrder Need n os → (j k : ℕ) → j < n → k < n → IsCycleFree Need n (get_or os k 0) → Need (get_or os k 0) (get_or os j 0) → j < k
   free_behind os p j k lj lk free need =
       let len = p.0 in
       let x = get_or os j 0 in

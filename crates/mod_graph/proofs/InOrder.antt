@@ -16,9 +16,9 @@ use Rattle.mk_base.specs.declared.place.Pos.{Pos}
 use Rattle.mod_graph.specs.Entries.{diag_at}
 use Rattle.mod_graph.specs.Edges.{number_of}
 use Rattle.mod_graph.specs.Errors.{put_by, put_in, in_order, alone_errors, import_errors, cycle_errors, entry_errors, errors_of, node_errors}
-use Rattle.mod_graph.specs.declared.input.PackageModule.{PackageModule}
+use Rattle.package_graph.specs.declared.modules.PackageModule.{PackageModule}
 use Rattle.mod_graph.specs.declared.entries.Entry.{Entry}
-use Rattle.mod_graph.proofs.Members.{here, later, nothing_in, first_or_later}
+use Rattle.package_graph.proofs.Members.{here, later, nothing_in, first_or_later}
 use Rattle.mod_graph.specs.Laws.{AreInOrder}
 
 pos_total : IsTotalOrder pos_cmp

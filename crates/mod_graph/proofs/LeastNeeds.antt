@@ -5,19 +5,20 @@ use Rattle.std.specs.List.{slice_get, list_any}
 use Rattle.std.proofs.lemmas.Bool.{ltb-true, lt-ltb}
 use Rattle.std.proofs.lemmas.Option.{same_Some}
 use Rattle.hs_syntax.specs.declared.header.ImportItem.{ImportItem}
-use Rattle.number_set.proofs.Booleans.{split_or, or_right}
-use Rattle.node_reach.proofs.ReachLaws.{more_edges}
-use Rattle.node_order.specs.Needs.{Needs, Follows}
-use Rattle.node_order.specs.Needs as nodes
-use Rattle.node_order.proofs.Leading.{needs_law}
+use Rattle.numbered_nodes.proofs.Booleans.{split_or, or_right}
+use Rattle.numbered_nodes.proofs.ReachLaws.{more_edges}
+use Rattle.numbered_nodes.specs.Needs.{Needs, Follows}
+use Rattle.numbered_nodes.specs.Needs as nodes
+use Rattle.numbered_nodes.proofs.Leading.{needs_law}
 use Rattle.mod_graph.specs.declared.entries.Entry.{Entry}
 use Rattle.mod_graph.specs.Names.{node_named}
-use Rattle.mod_graph.specs.Chains.{any_below}
+use Rattle.numbered_nodes.specs.Chains.{any_below}
 use Rattle.mod_graph.specs.Edges.{is_at, target, module_number, module_of, leads, in_loop, calls, needs, Leads, Joins, SameLoop, NeedsAreLeast}
-use Rattle.mod_graph.proofs.Chains.{and_both, both_and, or_left, over_is_reach}
+use Rattle.numbered_nodes.proofs.Chains.{and_both, both_and, or_left, over_is_reach}
 use Rattle.mod_graph.proofs.NodeTests.{same_modules}
-use Rattle.mod_graph.proofs.Numbering.{is_at_own, any_from, number_found, module_numbered}
-use Rattle.mod_graph.proofs.StepsBelow.{any_below_with, any_below_from, lead_from, leads_below, calls_below}
+use Rattle.numbered_nodes.proofs.Below.{any_below_with, any_below_from, is_at_own}
+use Rattle.mod_graph.proofs.Numbering.{any_from, number_found, module_numbered}
+use Rattle.mod_graph.proofs.StepsBelow.{lead_from, leads_below, calls_below}
 use Rattle.mod_graph.proofs.LoopClasses.{to_class, of_class, decided, outside, of_outside}
 
 module _ (es : List Entry) where

@@ -1,4 +1,3 @@
-pub mod Chains
 pub mod NodeTests
 pub mod Numbering
 pub mod StepsBelow
@@ -17,10 +16,6 @@ pub mod FirstNumbers
 pub mod Placed
 pub mod Skips
 pub mod Views
-pub mod LeastNames
-pub mod Members
-pub mod PackageRows
-pub mod Positions
 pub mod SortedOnce
 pub mod NodeErrors
 pub mod Parts

@@ -1,10 +1,10 @@
 -- Loops are the classes of modules that reach each other.
 use Rattle.std.proofs.Common.{◌≡◌, ◌⊎◌, ℕ, Bool, true, ◌&&◌, not, List, length, nat_eq, ap, sym, ◌∙◌, inl, inr}
-use Rattle.number_set.proofs.Booleans.{both_ways, split_or, or_right, is_same, from_test}
+use Rattle.numbered_nodes.proofs.Booleans.{both_ways, split_or, or_right, is_same, from_test}
 use Rattle.mod_graph.specs.declared.entries.Entry.{Entry}
-use Rattle.mod_graph.specs.Chains.{over}
+use Rattle.numbered_nodes.specs.Chains.{over}
 use Rattle.mod_graph.specs.Edges.{module_of, joins, in_loop, SameLoop, LoopsAreClasses}
-use Rattle.mod_graph.proofs.Chains.{and_both, both_and, or_left, over_is_reach}
+use Rattle.numbered_nodes.proofs.Chains.{and_both, both_and, or_left, over_is_reach}
 use Rattle.mod_graph.proofs.NodeTests.{differ}
 use Rattle.mod_graph.proofs.StepsBelow.{joins_below}
 

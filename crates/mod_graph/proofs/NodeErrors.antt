@@ -3,27 +3,28 @@ use Rattle.std.proofs.Common.{◌≡◌, ◌∙◌, ℕ, ◌<◌, Bool, true, fa
 use Rattle.std.specs.Prelude.{slice_get, codes, is_some, if◌then◌else◌}
 use Rattle.std.specs.List.{flat_map, find}
 use Rattle.std.specs.Option.{option_map_or}
-use Rattle.number_set.specs.Bits.{has}
+use Rattle.numbered_nodes.specs.Bits.{has}
 use Rattle.mk_base.specs.declared.name.Node.{Node}
 use Rattle.mk_base.specs.declared.diag.Diag.{Diag}
 use Rattle.hs_syntax.specs.declared.header.ImportItem.{ImportItem}
 use Rattle.mod_graph.specs.declared.entries.Entry.{Entry}
-use Rattle.mod_graph.specs.declared.input.PackageModule.{PackageModule}
-use Rattle.mod_graph.specs.declared.packages.Packages.{Packages}
+use Rattle.package_graph.specs.declared.modules.PackageModule.{PackageModule}
+use Rattle.package_graph.specs.declared.packages.Packages.{Packages}
 use Rattle.mod_graph.specs.declared.places.Numbers.{Numbers}
 use Rattle.mod_graph.specs.declared.rows.Rows.{Rows}
 use Rattle.mod_graph.specs.Edges.{number_of, target, reaches}
 use Rattle.mod_graph.specs.Entries.{diag_at}
 use Rattle.mod_graph.specs.Errors.{Found, InTree, InPackage, InPrim, Nowhere, not_found, no_boot, fault_errors, look_up, has_node, in_tree_errors, errors_at, import_errors, alone_errors, leads_back, cycle_at, own_boot_at, asks_own_boot, cycle_errors, in_order, errors_of, entry_errors}
 use Rattle.mod_graph.specs.Names.{same_node, node_named}
-use Rattle.mod_graph.specs.Packages.{least_faulty, is_damaged, is_dangling}
+use Rattle.package_graph.specs.Packages.{least_faulty, is_damaged, is_dangling}
 use Rattle.mod_graph.specs.Places.{AreNumbers}
 use Rattle.mod_graph.specs.Prelude.{first_place}
 use Rattle.mod_graph.specs.Rows.{AreRows}
-use Rattle.mod_graph.specs.Tables.{AreTables}
+use Rattle.package_graph.specs.Tables.{AreTables}
 use Rattle.mod_graph.specs.Told.{has_in, name_in, told_in_tree, told_source, told_faults, told_at, told_import, told_imports, told_alone, back_in, told_cycle_at, told_own_boot_at, told_own_boot, told_cycle}
 use Rattle.mod_graph.proofs.EnvironmentRows.{found_is, package_below}
-use Rattle.mod_graph.proofs.PackageRows.{position_below, same_tests}
+use Rattle.numbered_nodes.proofs.Below.{same_tests}
+use Rattle.package_graph.proofs.PackageRows.{position_below}
 
 name_at_place : (names : List (Option (List ℕ))) (k : ℕ) (o : Option (List ℕ)) → slice_get names k ≡ Some o → name_in names k ≡ o
 name_at_place names k o e = ap (λ (s : Option (Option (List ℕ))). option_map_or (λ n. n) s None) e

@@ -6,7 +6,7 @@ use Rattle.std.specs.List.{slice_get, AllByRecursion}
 use Rattle.std.proofs.lemmas.Bool.{cases_lt}
 use Rattle.std.proofs.lemmas.Option.{slice_get_within, get_or_from_slice_get, same_Some}
 use Rattle.mk_base.specs.declared.name.Node.{Node}
-use Rattle.node_order.specs.Order.{IsOrder, IsFree}
+use Rattle.numbered_nodes.specs.Order.{IsOrder, IsCycleFree}
 use Rattle.mod_graph.specs.declared.entries.Entry.{Entry}
 use Rattle.mod_graph.specs.Names.{same_node}
 use Rattle.mod_graph.specs.Edges.{number_of, calls, needs, needs_node}
@@ -14,7 +14,7 @@ use Rattle.mod_graph.specs.Entries.{entries_of}
 use Rattle.mod_graph.specs.Graph.{nodes_at, one_node, IsNodeOrder}
 use Rattle.mod_graph.specs.Laws as laws
 use Rattle.mod_graph.specs.Laws.{NeedsComeFirst}
-use Rattle.mod_graph.proofs.Chains.{over_chain}
+use Rattle.numbered_nodes.proofs.Chains.{over_chain}
 use Rattle.mod_graph.proofs.NodeTests.{nodes_tell, node_itself, differ}
 use Rattle.mod_graph.proofs.Numbering.{element_at, finds, number_found}
 use Rattle.mod_graph.proofs.StepsBelow.{calls_below}
@@ -67,7 +67,7 @@ module _ (es : List Entry) where
   needs_chain : (a b c : ℕ) → needs es a b ≡ true → needs es b c ≡ true → needs es a c ≡ true
   needs_chain a b c p q = over_chain (calls es) (length es) a b c (calls_below es) p q
 
-  free_numbered : AreApart es → (n : Node) (y : ℕ) → number_of es n ≡ Some y → laws.IsFree es n → IsFree (λ a b. needs es a b ≡ true) (length es) y
+  free_numbered : AreApart es → (n : Node) (y : ℕ) → number_of es n ≡ Some y → laws.IsCycleFreeNode es n → IsCycleFree (λ a b. needs es a b ≡ true) (length es) y
   free_numbered apart n y p free = (
     (λ self. differ (sym (needs_numbered n n y y p p ∙ self) ∙ free.0)),
     (λ z lz need self.
@@ -82,7 +82,7 @@ module _ (es : List Entry) where
       let len = p.0 in
       subst (λ z. z < length es) (get_or_from_slice_get os k x 0 h) (p.1 k (omega arith)).node
 
-  pub stands_behind : AreApart es → (ns : List Node) → IsNodeOrder es ns → (j k : ℕ) (m n : Node) → slice_get ns j ≡ Some m → slice_get ns k ≡ Some n → laws.IsFree es n → needs_node es n m ≡ true → j < k
+  pub stands_behind : AreApart es → (ns : List Node) → IsNodeOrder es ns → (j k : ℕ) (m n : Node) → slice_get ns j ≡ Some m → slice_get ns k ≡ Some n → laws.IsCycleFreeNode es n → needs_node es n m ≡ true → j < k
   stands_behind apart ns order j k m n hj hk free need =
       let os = order.0 in
       let p = order.1 in
@@ -96,7 +96,7 @@ module _ (es : List Entry) where
       let lj = slice_get_within os j first.0 first.2 in
       let lk = slice_get_within os k last.0 last.2 in
       free_behind (needs es) (length es) needs_chain os p j k (omega arith) (omega arith)
-      (subst (IsFree (λ a b. needs es a b ≡ true) (length es)) (sym at_k) (free_numbered apart n last.0 y free))
+      (subst (IsCycleFree (λ a b. needs es a b ≡ true) (length es)) (sym at_k) (free_numbered apart n last.0 y free))
       (ap (λ a. needs es a (get_or os j 0)) at_k ∙ ap (needs es last.0) at_j ∙ sym (needs_numbered n m last.0 first.0 y x) ∙ need)
 
 pub needs_come_first : NeedsComeFirst

@@ -11,7 +11,7 @@ use Rattle.std.specs.Cmp.Lexicographic.{texts_ties}
 use Rattle.mk_base.specs.Order.{node_cmp, text_cmp, place_of_node}
 use Rattle.mk_base.specs.declared.name.Node.{Node}
 use Rattle.mod_graph.specs.Names.{same_text, same_flag, same_node, less_node, node_named}
-use Rattle.mod_graph.proofs.Chains.{and_both}
+use Rattle.numbered_nodes.proofs.Chains.{and_both}
 
 pub differ : true ≡ false → ⊥
 differ e = cc

@@ -7,19 +7,13 @@ use Rattle.std.proofs.lemmas.Bool.{lt-ltb}
 use Rattle.std.proofs.lemmas.List.Quantifiers.{position-Some}
 use Rattle.std.proofs.lemmas.Option.{slice_get-get_or, slice_get_within, same_Some}
 use Rattle.mk_base.specs.declared.name.Node.{Node}
-use Rattle.number_set.proofs.Booleans.{both_ways, split_or, or_right, is_same, from_test}
+use Rattle.numbered_nodes.proofs.Booleans.{both_ways, split_or, or_right, is_same, from_test}
 use Rattle.mod_graph.specs.declared.entries.Entry.{Entry}
 use Rattle.mod_graph.specs.Names.{same_text, same_node}
 use Rattle.mod_graph.specs.Edges.{is_at, number_of, module_number, module_of}
-use Rattle.mod_graph.proofs.Chains.{or_left}
+use Rattle.numbered_nodes.proofs.Below.{is_at_is, is_at_own}
+use Rattle.numbered_nodes.proofs.Chains.{or_left}
 use Rattle.mod_graph.proofs.NodeTests.{texts_tell, text_itself}
-
-pub is_at_is : (o : Option ℕ) (k : ℕ) → is_at o k ≡ true → o ≡ Some k
-is_at_is None k e = absurd (let h : ⊥ = cc in h)
-is_at_is (Some i) k e = ap (λ j. Some j) (from_test i k e)
-
-pub is_at_own : (o : Option ℕ) (k : ℕ) → o ≡ Some k → is_at o k ≡ true
-is_at_own o k e = rw e (is_same k k refl)
 
 module _ {X : Type 0} where
   pub any_with : (p : X → Bool) (xs : List X) → list_any p xs ≡ true → (k : ℕ) × (x : X) × (slice_get xs k ≡ Some x) × (p x ≡ true)

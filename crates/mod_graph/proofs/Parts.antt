@@ -8,23 +8,23 @@ use Rattle.mk_base.specs.declared.name.Node.{Node}
 use Rattle.mk_base.specs.declared.place.NodeId.{NodeId}
 use Rattle.mk_base.specs.declared.diag.Diag.{Diag}
 use Rattle.mod_graph.specs.declared.entries.Entry.{Entry}
-use Rattle.mod_graph.specs.declared.input.PackageModule.{PackageModule}
+use Rattle.package_graph.specs.declared.modules.PackageModule.{PackageModule}
 use Rattle.mod_graph.specs.declared.lists.Lists.{Lists}
-use Rattle.mod_graph.specs.declared.packages.Packages.{Packages}
+use Rattle.package_graph.specs.declared.packages.Packages.{Packages}
 use Rattle.mod_graph.specs.declared.places.Numbers.{Numbers}
 use Rattle.mod_graph.specs.declared.rows.Rows.{Rows}
 use Rattle.mod_graph.specs.declared.input.HeaderOf.{HeaderOf}
 use Rattle.mod_graph.specs.Names.{less_node}
 use Rattle.mod_graph.specs.Entries.{by_node, counted, entries_from, entries_of, insert}
-use Rattle.mod_graph.specs.Chains.{below}
+use Rattle.numbered_nodes.specs.Chains.{below}
 use Rattle.mod_graph.specs.Edges.{number_of, needs}
 use Rattle.mod_graph.specs.Errors.{errors_of}
 use Rattle.mod_graph.specs.Graph.{Input, AreDistinct, entries, errors_by, ids, in_environment, needs_in, nodes_at, reached_by}
 use Rattle.mod_graph.specs.Parts.{AreLists, AreParts}
 use Rattle.mod_graph.specs.Places.{AreNumbers}
 use Rattle.mod_graph.specs.Rows.{AreRows}
-use Rattle.mod_graph.specs.Tables.{AreTables}
-use Rattle.number_set.proofs.Booleans.{both_ways}
+use Rattle.package_graph.specs.Tables.{AreTables}
+use Rattle.numbered_nodes.proofs.Booleans.{both_ways}
 use Rattle.mod_graph.proofs.Placed.{in_range, needs_listed, node_count, placed}
 use Rattle.mod_graph.proofs.SortedHeaders.{AreApart, nodes_apart}
 

@@ -9,31 +9,20 @@ use Rattle.std.proofs.lemmas.Map.Steps.{length-le_from_distinct_below}
 use Rattle.std.proofs.lemmas.Option.{slice_get_within, slice_get-get_or, get_or_from_slice_get}
 use Rattle.mk_base.specs.declared.name.Node.{Node}
 use Rattle.mk_base.specs.declared.place.NodeId.{NodeId}
-use Rattle.number_set.specs.Bits.{has}
-use Rattle.number_set.proofs.Booleans.{both_ways, not_true, split_or, or_right, from_test}
-use Rattle.node_reach.specs.Edges.{Relates}
-use Rattle.node_order.specs.Order.{IsOrder}
+use Rattle.numbered_nodes.specs.Bits.{has}
+use Rattle.numbered_nodes.proofs.Booleans.{both_ways, not_true, split_or, or_right, from_test}
+use Rattle.numbered_nodes.specs.Edges.{Relates}
+use Rattle.numbered_nodes.specs.Order.{IsOrder}
 use Rattle.mod_graph.specs.declared.entries.Entry.{Entry}
-use Rattle.mod_graph.specs.Chains.{below}
+use Rattle.numbered_nodes.specs.Chains.{below}
 use Rattle.mod_graph.specs.Edges.{number_of, needs}
 use Rattle.mod_graph.specs.Graph.{nodes_at, one_node, needs_place, needs_in, ids}
 use Rattle.mod_graph.specs.Seen.{is_needed, places_needed}
-use Rattle.mod_graph.proofs.Chains.{or_left}
+use Rattle.numbered_nodes.proofs.Below.{same_tests, below_alike}
+use Rattle.numbered_nodes.proofs.Chains.{or_left}
 use Rattle.mod_graph.proofs.NodeOrders.{node_at, number_is_place, needs_numbered}
 use Rattle.mod_graph.proofs.Numbering.{any_with, element_at}
 use Rattle.mod_graph.proofs.SortedHeaders.{AreApart}
-
--- two tests that pass together are the same
-pub same_tests : (a b : Bool) → (a ≡ true → b ≡ true) → (b ≡ true → a ≡ true) → a ≡ b
-same_tests true b f g = sym (f refl)
-same_tests false true f g = g refl
-same_tests false false f g = refl
-
-pub below_alike : (n : ℕ) (p q : ℕ → Bool) → ((k : ℕ) → k < n → p k ≡ q k) → below n p ≡ below n q
-below_alike zero p q h = refl
-below_alike (suc n) p q h =
-    ap (λ (l : List ℕ). l ++ cond (p n) (n ∷ []) []) (below_alike n p q (λ k lt. h k (omega arith)))
-    ∙ ap (λ b. below n q ++ cond b (n ∷ []) []) (h n (omega arith))
 
 -- one more number passes
 pub below_push : (p : ℕ → Bool) (n : ℕ) (xs ys : List NodeId) (x : NodeId) → ids xs ≡ below n p → p n ≡ true → ys ≡ xs ++ x ∷ [] → x.0 ≡ n → ids ys ≡ below (n + 1) p

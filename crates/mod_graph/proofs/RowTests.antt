@@ -5,20 +5,20 @@ use Rattle.std.specs.List.{slice_get, Contains}
 use Rattle.std.proofs.lemmas.Bool.{cases_eq, cases_lt}
 use Rattle.std.proofs.lemmas.List.{get_or_past}
 use Rattle.std.proofs.lemmas.Option.{slice_get_past}
-use Rattle.number_set.proofs.Booleans.{not_true}
-use Rattle.node_reach.specs.Edges.{HasEdge, InRange, Relates}
-use Rattle.node_reach.specs.Reach.{Reach, edge, onward, InOneLoop}
-use Rattle.node_reach.proofs.ReachLaws.{more_edges}
-use Rattle.node_order.specs.Needs.{Needs, reached, mate, beyond, InLoop, Follows}
-use Rattle.node_order.specs.Order.{IsReady, IsOrder}
-use Rattle.node_order.proofs.NeedsRows.{targets_range}
-use Rattle.node_order.proofs.OrderLaws.{next_alike}
+use Rattle.numbered_nodes.proofs.Booleans.{not_true}
+use Rattle.numbered_nodes.specs.Edges.{HasEdge, InRange, Relates}
+use Rattle.numbered_nodes.specs.Reach.{Reach, edge, onward, InOneLoop}
+use Rattle.numbered_nodes.proofs.ReachLaws.{more_edges}
+use Rattle.numbered_nodes.specs.Needs.{Needs, reached, mate, beyond, InLoop, Follows}
+use Rattle.numbered_nodes.specs.Order.{IsReady, IsOrder}
+use Rattle.numbered_nodes.proofs.NeedsRows.{targets_range}
+use Rattle.numbered_nodes.proofs.OrderLaws.{next_alike}
 use Rattle.mod_graph.specs.declared.entries.Entry.{Entry}
-use Rattle.mod_graph.specs.Chains.{below}
+use Rattle.numbered_nodes.specs.Chains.{below}
 use Rattle.mod_graph.specs.Edges.{module_of, module_number, reaches, in_loop, needs, Leads, Joins, SameLoop}
 use Rattle.mod_graph.specs.Graph.{first_below}
 use Rattle.mod_graph.specs.LoopRows.{IsFirstInLoop}
-use Rattle.mod_graph.proofs.Chains.{over_is_reach}
+use Rattle.numbered_nodes.proofs.Chains.{over_is_reach}
 use Rattle.mod_graph.proofs.Numbering.{module_not_above, module_is_own, module_of_own}
 use Rattle.mod_graph.proofs.StepsBelow.{leads_below, joins_below, join_from}
 use Rattle.mod_graph.proofs.LoopClasses.{to_class, of_class}

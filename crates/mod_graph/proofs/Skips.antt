@@ -5,33 +5,21 @@ use Rattle.std.specs.List.{All}
 use Rattle.std.proofs.lemmas.Bool.{cases_lt}
 use Rattle.std.proofs.lemmas.List.{append-nil}
 use Rattle.mk_base.specs.declared.place.NodeId.{NodeId}
-use Rattle.number_set.specs.Bits.{has}
-use Rattle.number_set.proofs.Booleans.{not_true, is_same, from_test}
-use Rattle.node_order.specs.Order.{IsOrder}
-use Rattle.mod_graph.specs.Chains.{any_below, below}
+use Rattle.numbered_nodes.specs.Bits.{has}
+use Rattle.numbered_nodes.proofs.Booleans.{not_true, is_same, from_test}
+use Rattle.numbered_nodes.specs.Order.{IsOrder}
+use Rattle.numbered_nodes.specs.Chains.{any_below, below}
 use Rattle.mod_graph.specs.Graph.{ids}
 use Rattle.mod_graph.specs.Seen.{ArePlaces, is_needed, is_place, places_needed}
-use Rattle.mod_graph.proofs.Chains.{and_both, both_and}
-use Rattle.mod_graph.proofs.Placed.{below_alike, below_push, order_has, order_range, same_tests}
-use Rattle.mod_graph.proofs.StepsBelow.{any_below_with, any_below_from}
-
--- no number from one bound on and below another passes
-abbrev pub NoneFrom : (ℕ → Bool) → ℕ → ℕ → Type 0
-NoneFrom p a b = (k : ℕ) → a ≤ k → k < b → p k ≡ false
-
-or_none : (b c : Bool) → c ≡ false → (b || c) ≡ b
-or_none true c e = refl
-or_none false c e = e
+use Rattle.numbered_nodes.proofs.Below.{NoneFrom, any_below_from, any_below_with, any_next, below_alike, below_skip, or_none, same_tests}
+use Rattle.numbered_nodes.proofs.Chains.{and_both, both_and}
+use Rattle.mod_graph.proofs.Placed.{below_push, order_has, order_range}
 
 or_swap : (b c : Bool) → (b || c) ≡ (c || b)
 or_swap true true = refl
 or_swap true false = refl
 or_swap false true = refl
 or_swap false false = refl
-
-or_assoc : (x y z : Bool) → ((x || y) || z) ≡ (x || (y || z))
-or_assoc true y z = refl
-or_assoc false y z = refl
 
 -- what follows from a fact about what a call answers
 pub if_ok : {X E : Type 0} (P Q : X → Type 0) (r : Result X E) → ((x : X) → P x → Q x) → IfOk r P → IfOk r Q
@@ -45,41 +33,14 @@ outside true false f = absurd (let h : ⊥ = cc (f refl) in h)
 outside false true f = refl
 outside false false f = refl
 
--- a set whose numbers stand in an empty one has none
-pub absent_in : (s t : Bool) → (s ≡ true → t ≡ true) → t ≡ false → s ≡ false
-absent_in s t f e = not_true s (λ yes. let h : true ≡ false = sym (f yes) ∙ e in cc)
-
 -- what stands in a set outside another
 pub stands : (s t : Bool) → s ≡ true → t ≡ false → (not t && s) ≡ true
 stands s true e f = absurd (let h : ⊥ = cc in h)
 stands s false e f = e
 
 module _ (p : ℕ → Bool) where
-  -- where no number passes in between, the bound doesn't matter
-  pub below_skip : (a b : ℕ) → a ≤ b → NoneFrom p a b → below b p ≡ below a p
-  below_skip a zero le none = ap (λ n. below n p) (let e : zero ≡ a = omega arith in e)
-  below_skip a (suc b) le none = elim (cases_lt b a) [
-    | inl less ↦ ap (λ n. below n p) (let e : suc b ≡ a = omega arith in e)
-    | inr more ↦ ap (λ t. below b p ++ cond t (b ∷ []) []) (none b more (omega arith)) ∙ append-nil (below b p) ∙ below_skip a b more (λ k from to. none k from (omega arith))
-  ]
-
-  pub any_skip : (a b : ℕ) → a ≤ b → NoneFrom p a b → any_below b p ≡ any_below a p
-  any_skip a zero le none = ap (λ n. any_below n p) (let e : zero ≡ a = omega arith in e)
-  any_skip a (suc b) le none = elim (cases_lt b a) [
-    | inl less ↦ ap (λ n. any_below n p) (let e : suc b ≡ a = omega arith in e)
-    | inr more ↦ or_none (any_below b p) (p b) (none b more (omega arith)) ∙ any_skip a b more (λ k from to. none k from (omega arith))
-  ]
-
-  -- one more number is found
-  pub any_next : (a b : ℕ) → a ≤ b → NoneFrom p a b → any_below (b + 1) p ≡ (any_below a p || p b)
-  any_next a b le none = ap (λ n. any_below n p) (add-one b) ∙ ap (λ t. t || p b) (any_skip a b le none)
-
-  pub below_found : (a b : ℕ) (xs ys : List ℕ) → xs ≡ below a p → a ≤ b → NoneFrom p a b → p b ≡ true → ys ≡ xs ++ b ∷ [] → ys ≡ below (b + 1) p
-  below_found a b xs ys before le none there push =
-      push ∙ ap (λ (l : List ℕ). l ++ b ∷ []) (before ∙ sym (below_skip a b le none)) ∙ sym (ap (λ n. below n p) (add-one b) ∙ ap (λ t. below b p ++ cond t (b ∷ []) []) there)
-
   pub ids_found : (a b : ℕ) (xs ys : List NodeId) (x : NodeId) → ids xs ≡ below a p → a ≤ b → NoneFrom p a b → p b ≡ true → ys ≡ xs ++ x ∷ [] → x.0 ≡ b → ids ys ≡ below (b + 1) p
-  ids_found a b xs ys x before le none there push same = below_push p b xs ys x (before ∙ sym (below_skip a b le none)) there push same
+  ids_found a b xs ys x before le none there push same = below_push p b xs ys x (before ∙ sym (below_skip p a b le none)) there push same
 
 -- the place of one more number in the row
 pub place_found : (row places : List ℕ) (a b k : ℕ) (old new : Bool) → a ≤ b → NoneFrom (has row) a b → has row b ≡ true
@@ -125,13 +86,3 @@ pub needed_listed : (row places order placed skipped none : List ℕ) (place : �
     → ((k : ℕ) → has placed k ≡ is_place row places k) → below (length order) (λ k. not (has skipped k) && has placed k) ≡ places_needed row order place
 needed_listed row places order placed skipped none place are empty own all = below_alike (length order) (λ k. not (has skipped k) && has placed k) (is_needed row order place) (λ k lt.
     ap (λ t. not t && has placed k) (own k ∙ or_none (nat_eq k place) (has none k) (empty k)) ∙ ap (λ t. not (nat_eq k place) && t) (all k ∙ place_there row places order are k lt))
-
--- the row of one more node is joined
-pub joined_found : (p : ℕ → Bool) (a b : ℕ) (own old new row need : Bool) → a ≤ b → NoneFrom p a b → need ≡ true → p b ≡ (need && row) → old ≡ (own || any_below a p) → new ≡ (old || row) → new ≡ (own || any_below (b + 1) p)
-joined_found p a b own old new row need le none there found before added =
-    added ∙ ap (λ t. t || row) before ∙ or_assoc own (any_below a p) row ∙ ap (λ t. own || (any_below a p || t)) (ap (λ t. t && row) (sym there) ∙ sym found) ∙ ap (λ t. own || t) (sym (any_next p a b le none))
-
--- what is passed by adds nothing: it isn't needed, or its own row is empty
-pub adds_nothing : (need plain row : Bool) → (need ≡ true → plain ≡ true) → (plain ≡ true → row ≡ false) → (need && row) ≡ false
-adds_nothing true plain row f g = g (f refl)
-adds_nothing false plain row f g = refl

@@ -1,7 +1,7 @@
 -- The headers stand by node, whatever their order was, and each node keeps its place among the entries.
 use Rattle.std.proofs.Common.{◌≡◌, ℕ, suc, ◌+◌, Bool, true, false, List, [], ◌∷◌, refl, ap, sym, ◌∙◌, subst}
 use Rattle.std.specs.List.{AllByRecursion}
-use Rattle.number_set.proofs.Booleans.{both_ways}
+use Rattle.numbered_nodes.proofs.Booleans.{both_ways}
 use Rattle.mk_base.specs.declared.name.Node.{Node}
 use Rattle.mod_graph.specs.declared.input.HeaderOf.{HeaderOf}
 use Rattle.mod_graph.specs.declared.entries.Entry.{Entry}

@@ -14,7 +14,7 @@ use Rattle.mk_base.specs.declared.diag.Diag.{Diag}
 use Rattle.mod_graph.specs.Errors.{in_order}
 use Rattle.mod_graph.specs.Laws.{AreInOrder}
 use Rattle.mod_graph.proofs.InOrder.{diag_total, same_diag, in_order_rises, in_order_keeps, in_order_makes_none, one_in_order}
-use Rattle.mod_graph.proofs.PackageRows.{same_tests}
+use Rattle.numbered_nodes.proofs.Below.{same_tests}
 
 strictly_in_order : (ds : List Diag) → IsStrictlySortedBy diag_cmp ds → AreInOrder ds
 unfolding IsStrictlySortedBy

@@ -6,27 +6,14 @@ use Rattle.std.specs.List.{slice_get, list_any}
 use Rattle.std.proofs.lemmas.Bool.{cases_eq, ltb-true}
 use Rattle.std.proofs.lemmas.Option.{slice_get_within}
 use Rattle.hs_syntax.specs.declared.header.ImportItem.{ImportItem}
-use Rattle.number_set.proofs.Booleans.{split_or, or_right}
+use Rattle.numbered_nodes.proofs.Booleans.{split_or, or_right}
 use Rattle.mod_graph.specs.declared.entries.Entry.{Entry}
 use Rattle.mod_graph.specs.Names.{node_named}
-use Rattle.mod_graph.specs.Chains.{any_below, AreBelow}
+use Rattle.numbered_nodes.specs.Chains.{any_below, AreBelow}
 use Rattle.mod_graph.specs.Edges.{is_at, target, number_of, module_number, leads_from, leads, joins, in_loop, calls}
-use Rattle.mod_graph.proofs.Chains.{and_both, or_left}
-use Rattle.mod_graph.proofs.Numbering.{is_at_is, any_with, number_below, module_below}
-
-pub any_below_with : (n : ℕ) (p : ℕ → Bool) → any_below n p ≡ true → (k : ℕ) × (k < n) × (p k ≡ true)
-any_below_with zero p e = absurd (let h : ⊥ = cc in h)
-any_below_with (suc n) p e = elim (split_or (any_below n p) (p n) e) [
-  | inl h ↦ let s = any_below_with n p h in (s.0, (let lt = s.1 in omega arith), s.2)
-  | inr h ↦ (n, omega arith, h)
-]
-
-pub any_below_from : (n : ℕ) (p : ℕ → Bool) (k : ℕ) → k < n → p k ≡ true → any_below n p ≡ true
-any_below_from zero p k lt h = absurd (omega arith)
-any_below_from (suc n) p k lt h = elim (cases_eq k n) [
-  | inl same ↦ or_right (any_below n p) (p n) (ap p (sym same) ∙ h)
-  | inr other ↦ or_left (any_below n p) (p n) (any_below_from n p k (omega arith) h)
-]
+use Rattle.numbered_nodes.proofs.Below.{any_below_with, any_below_from, is_at_is}
+use Rattle.numbered_nodes.proofs.Chains.{and_both, or_left}
+use Rattle.mod_graph.proofs.Numbering.{any_with, number_below, module_below}
 
 -- the value of an option of which something is true
 some_with : {X : Type 0} (p : X → Bool) (o : Option X) → option_map_or p o false ≡ true → (x : X) × (o ≡ Some x) × (p x ≡ true)

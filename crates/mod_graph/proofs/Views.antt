@@ -6,9 +6,9 @@ use Rattle.std.specs.Option.{ForSome, IfSome, is_some, option_map, option_map_or
 use Rattle.std.proofs.lemmas.Bool.{cases_eq}
 use Rattle.std.proofs.lemmas.Option.{same_Some, get_or_from_slice_get}
 use Rattle.mk_base.specs.declared.name.Node.{Node}
-use Rattle.number_set.specs.Bits.{has}
-use Rattle.number_set.proofs.Booleans.{both_ways, is_same, from_test}
-use Rattle.node_reach.proofs.ReachLaws.{loop_sym, loop_trans}
+use Rattle.numbered_nodes.specs.Bits.{has}
+use Rattle.numbered_nodes.proofs.Booleans.{both_ways, is_same, from_test}
+use Rattle.numbered_nodes.proofs.ReachLaws.{loop_sym, loop_trans}
 use Rattle.mod_graph.specs.declared.entries.Entry.{Entry}
 use Rattle.mod_graph.specs.declared.graph.Graph.{Graph}
 use Rattle.mod_graph.specs.declared.input.ViewOf.{ViewOf}
@@ -16,16 +16,17 @@ use Rattle.mod_graph.specs.declared.input.ViewOf.TheVariants as view
 use Rattle.mod_graph.specs.Names.{same_text, node_named}
 use Rattle.mod_graph.specs.Edges.{number_of, module_of, in_loop, reaches}
 use Rattle.mod_graph.specs.Errors.{Found, InTree, InPackage, InPrim, Nowhere, outside_tree, look_up}
-use Rattle.mod_graph.specs.Packages.{first_package}
+use Rattle.package_graph.specs.Packages.{first_package}
 use Rattle.mod_graph.specs.Graph.{Input, View, Tree, IsView, entries, first_below, loop_number, nodes_at, tree_view, view_by, view_of}
 use Rattle.mod_graph.specs.Places.{number_in, module_in}
 use Rattle.mod_graph.specs.Seen.{is_seen, number_seen, outside_seen}
-use Rattle.mod_graph.specs.Tables.{first_in}
+use Rattle.package_graph.specs.Tables.{first_in}
 use Rattle.mod_graph.specs.Kept.{IsGraph}
 use Rattle.mod_graph.proofs.LoopClasses.{to_class, of_class}
 use Rattle.mod_graph.proofs.NodeTests.{differ, nodes_tell}
+use Rattle.numbered_nodes.proofs.Below.{same_tests, below_alike}
 use Rattle.mod_graph.proofs.Numbering.{number_found, number_below}
-use Rattle.mod_graph.proofs.Placed.{same_tests, below_alike, order_has, in_range, placed, node_there}
+use Rattle.mod_graph.proofs.Placed.{order_has, in_range, placed, node_there}
 use Rattle.mod_graph.proofs.RowTests.{first_is}
 use Rattle.mod_graph.proofs.SortedHeaders.{AreApart, nodes_apart}
 

@@ -5,16 +5,12 @@ use Rattle.std.specs.List.{list_any}
 use Rattle.std.specs.Option.{option_map_or}
 use Rattle.mk_base.specs.declared.name.Node.{Node}
 use Rattle.hs_syntax.specs.declared.header.ImportItem.{ImportItem}
-use Rattle.node_reach.specs.Reach.{Reach, InOneLoop}
-use Rattle.node_order.specs.Needs.{Needs}
+use Rattle.numbered_nodes.specs.Reach.{Reach, InOneLoop}
+use Rattle.numbered_nodes.specs.Needs.{Needs}
 use Rattle.mod_graph.specs.declared.entries.Entry.{Entry}
 use Rattle.mod_graph.specs.Names.{same_text, same_node, node_named}
-use Rattle.mod_graph.specs.Chains.{any_below, over, Steps}
-
--- the option is this number
-abbrev pub is_at : Option ℕ → ℕ → Bool
-is_at None k = false
-is_at (Some i) k = nat_eq i k
+use Rattle.numbered_nodes.specs.Chains.{any_below, over, IsStep}
+pub use Rattle.numbered_nodes.specs.Chains.{is_at}
 
 -- the node that an import asks for: the real one, or with SOURCE the boot node
 abbrev pub target : ImportItem → Node
@@ -68,10 +64,10 @@ module _ (es : List Entry) where
   -- nodes of that loop and what these reach.
 
   abbrev pub Leads : ℕ → ℕ → Type 0
-  Leads a b = Steps leads a b
+  Leads a b = IsStep leads a b
 
   abbrev pub Joins : ℕ → ℕ → Type 0
-  Joins x y = Steps joins x y
+  Joins x y = IsStep joins x y
 
   abbrev pub SameLoop : ℕ → ℕ → Type 0
   SameLoop a b = InOneLoop Joins (module_of a) (module_of b)

@@ -8,13 +8,13 @@ use Rattle.mk_base.specs.Order.{diag_cmp}
 use Rattle.mk_base.specs.declared.name.Node.{Node}
 use Rattle.mk_base.specs.declared.diag.Diag.{Diag}
 use Rattle.hs_syntax.specs.declared.header.ImportItem.{ImportItem}
-use Rattle.mod_graph.specs.declared.input.PackageModule.{PackageModule}
+use Rattle.package_graph.specs.declared.modules.PackageModule.{PackageModule}
 use Rattle.mod_graph.specs.declared.entries.Entry.{Entry}
 use Rattle.mod_graph.specs.Prelude.{first_place}
 use Rattle.mod_graph.specs.Names.{same_text, node_named}
 use Rattle.mod_graph.specs.Entries.{diag_at}
 use Rattle.mod_graph.specs.Edges.{number_of, module_number, target, reaches}
-use Rattle.mod_graph.specs.Packages.{first_package, least_faulty, is_damaged, is_dangling}
+use Rattle.package_graph.specs.Packages.{first_package, least_faulty, is_damaged, is_dangling}
 
 -- Diagnostics in their order, those that are alike in all parts once.
 abbrev pub put_by : Ordering → Diag → Diag → List Diag → List Diag → List Diag

@@ -2,13 +2,13 @@
 use Rattle.std.specs.Prelude.{ℕ, is_some, List, Some, None, Option, codes, if◌then◌else◌}
 use Rattle.mod_graph.specs.declared.found.Found.{Found}
 use Rattle.mod_graph.specs.declared.found.Found.TheVariants as told
-use Rattle.mod_graph.specs.declared.packages.Packages.{Packages}
+use Rattle.package_graph.specs.declared.packages.Packages.{Packages}
 use Rattle.mod_graph.specs.declared.places.Numbers.{Numbers}
 use Rattle.mod_graph.specs.Errors.{InTree, InPackage, InPrim, Nowhere}
 use Rattle.mod_graph.specs.Errors as errors
 use Rattle.mod_graph.specs.Names.{same_text}
 use Rattle.mod_graph.specs.Places.{module_in}
-use Rattle.mod_graph.specs.Tables.{first_in}
+use Rattle.package_graph.specs.Tables.{first_in}
 
 abbrev pub as_found : Found → errors.Found
 as_found told.Tree = InTree

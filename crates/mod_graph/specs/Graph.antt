@@ -7,17 +7,17 @@ use Rattle.mk_base.specs.declared.name.Node.{Node}
 use Rattle.mk_base.specs.declared.place.NodeId.{NodeId}
 use Rattle.mk_base.specs.declared.diag.Diag.{Diag}
 use Rattle.hs_syntax.specs.declared.header.ImportItem.{ImportItem}
-use Rattle.node_order.specs.Order.{IsOrder}
+use Rattle.numbered_nodes.specs.Order.{IsOrder}
 use Rattle.mod_graph.specs.declared.input.HeaderOf.{HeaderOf}
-use Rattle.mod_graph.specs.declared.input.PackageModule.{PackageModule}
+use Rattle.package_graph.specs.declared.modules.PackageModule.{PackageModule}
 use Rattle.mod_graph.specs.declared.input.ViewOf.{ViewOf}
 use Rattle.mod_graph.specs.declared.input.ViewOf.TheVariants as view
 use Rattle.mod_graph.specs.declared.entries.Entry.{Entry}
 use Rattle.mod_graph.specs.Names.{node_named}
 use Rattle.mod_graph.specs.Entries.{entries_of}
-use Rattle.mod_graph.specs.Chains.{any_below, below}
+use Rattle.numbered_nodes.specs.Chains.{any_below, below}
 use Rattle.mod_graph.specs.Edges.{number_of, module_of, reaches, in_loop, needs, needs_node}
-use Rattle.mod_graph.specs.Packages.{has_package}
+use Rattle.package_graph.specs.Packages.{has_package}
 use Rattle.mod_graph.specs.Errors.{Found, InTree, InPackage, InPrim, Nowhere, look_up, node_errors}
 
 -- what a graph is made of: the headers of a tree, the modules of its packages, and whether Prelude is imported where nothing else is said

@@ -6,7 +6,7 @@ use Rattle.mod_graph.specs.declared.graph.Graph.{Graph}
 use Rattle.mod_graph.specs.Graph.{Input, AreDistinct, entries, nodes_at, needs_in, ids, errors_by, reached_by}
 use Rattle.mod_graph.specs.Places.{AreNumbers}
 use Rattle.mod_graph.specs.Rows.{AreRows}
-use Rattle.mod_graph.specs.Tables.{AreTables}
+use Rattle.package_graph.specs.Tables.{AreTables}
 
 -- The graph of these headers and packages: its nodes in their order, with lists for each place in it, and tables by the numbers of nodes.
 pub record IsGraph (i : Input) (g : Graph) : Type 0 where

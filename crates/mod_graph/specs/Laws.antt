@@ -6,7 +6,7 @@ use Rattle.std.specs.declared.cmp.Ordering.TheVariants.{Less}
 use Rattle.mk_base.specs.Order.{diag_cmp}
 use Rattle.mk_base.specs.declared.name.Node.{Node}
 use Rattle.mk_base.specs.declared.diag.Diag.{Diag}
-use Rattle.mod_graph.specs.declared.input.PackageModule.{PackageModule}
+use Rattle.package_graph.specs.declared.modules.PackageModule.{PackageModule}
 use Rattle.mod_graph.specs.Errors.{in_order, node_errors}
 use Rattle.mod_graph.specs.declared.input.HeaderOf.{HeaderOf}
 use Rattle.mod_graph.specs.declared.entries.Entry.{Entry}
@@ -30,13 +30,13 @@ abbrev pub OrderIsOne : Type 0
 OrderIsOne = (es : List Entry) (ns ms : List Node) → IsNodeOrder es ns → IsNodeOrder es ms → ns ≡ ms
 
 -- the node and all that it needs don't need themselves
-abbrev pub IsFree : List Entry → Node → Type 0
-IsFree es n = (needs_node es n n ≡ false) × ((m : Node) → needs_node es n m ≡ true → needs_node es m m ≡ false)
+abbrev pub IsCycleFreeNode : List Entry → Node → Type 0
+IsCycleFreeNode es n = (needs_node es n n ≡ false) × ((m : Node) → needs_node es n m ≡ true → needs_node es m m ≡ false)
 
 -- A node before which there is no cycle stands behind all that it needs.
 abbrev pub NeedsComeFirst : Type 0
 NeedsComeFirst = (prelude : Bool) (hs : List HeaderOf) → AreDistinct hs → (ns : List Node) → IsNodeOrder (entries_of prelude hs) ns
-    → (j k : ℕ) (m n : Node) → slice_get ns j ≡ Some m → slice_get ns k ≡ Some n → IsFree (entries_of prelude hs) n → needs_node (entries_of prelude hs) n m ≡ true → j < k
+    → (j k : ℕ) (m n : Node) → slice_get ns j ≡ Some m → slice_get ns k ≡ Some n → IsCycleFreeNode (entries_of prelude hs) n → needs_node (entries_of prelude hs) n m ≡ true → j < k
 
 -- each diagnostic stands before all that are behind it: by line, column, number and text, no two alike
 abbrev pub AreInOrder : List Diag → Type 0

@@ -1,16 +1,12 @@
 pub mod Prelude
 pub mod Names
 pub mod Entries
-pub mod Chains
 pub mod Edges
-pub mod Packages
 pub mod Errors
 pub mod Graph
 pub mod Ranked
 pub mod Places
 pub mod Targets
-pub mod PackageTables
-pub mod Tables
 pub mod Found
 pub mod Environments
 pub mod Told

@@ -1,6 +1,6 @@
 -- The first module of a loop.
 use Rattle.std.specs.Prelude.{ℕ, ◌<◌}
-use Rattle.node_reach.specs.Reach.{InOneLoop}
+use Rattle.numbered_nodes.specs.Reach.{InOneLoop}
 
 -- m is in the loop of x over these edges of modules, and no lesser number is
 abbrev pub IsFirstInLoop : (ℕ → ℕ → Type 0) → ℕ → ℕ → Type 0

@@ -1,12 +1,9 @@
 -- Nodes by their names: the node of a module, the test whether two are the same, and their order.
 use Rattle.std.specs.Prelude.{ℕ, Bool, ◌&&◌, cond, not, nat_eq, List}
-use Rattle.std.specs.Cmp.Lexicographic.{pointwise}
 use Rattle.std.specs.Ordering.{is_lt}
 use Rattle.mk_base.specs.Order.{node_cmp}
 use Rattle.mk_base.specs.declared.name.Node.{Node}
-
-abbrev pub same_text : List ℕ → List ℕ → Bool
-same_text a b = pointwise nat_eq a b
+pub use Rattle.package_graph.specs.Names.{same_text}
 
 abbrev pub same_flag : Bool → Bool → Bool
 same_flag a b = cond a b (not b)

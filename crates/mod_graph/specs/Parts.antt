@@ -2,18 +2,18 @@
 use Rattle.std.specs.Prelude.{◌≡◌, ◌<◌, ℕ, List, [], get_or, length, map}
 use Rattle.std.specs.List.{All}
 use Rattle.mod_graph.specs.declared.entries.Entry.{Entry}
-use Rattle.mod_graph.specs.declared.input.PackageModule.{PackageModule}
+use Rattle.package_graph.specs.declared.modules.PackageModule.{PackageModule}
 use Rattle.mod_graph.specs.declared.lists.Lists.{Lists}
-use Rattle.mod_graph.specs.declared.packages.Packages.{Packages}
+use Rattle.package_graph.specs.declared.packages.Packages.{Packages}
 use Rattle.mod_graph.specs.declared.places.Numbers.{Numbers}
 use Rattle.mod_graph.specs.declared.rows.Rows.{Rows}
-use Rattle.mod_graph.specs.Chains.{below}
+use Rattle.numbered_nodes.specs.Chains.{below}
 use Rattle.mod_graph.specs.Errors.{errors_of}
 use Rattle.mod_graph.specs.Graph.{Input, AreDistinct, entries, ids, in_environment, nodes_at}
 use Rattle.mod_graph.specs.Places.{AreNumbers}
 use Rattle.mod_graph.specs.Rows.{AreRows}
 use Rattle.mod_graph.specs.Seen.{places_needed}
-use Rattle.mod_graph.specs.Tables.{AreTables}
+use Rattle.package_graph.specs.Tables.{AreTables}
 
 -- The lists by place of a tree with these entries, by the numbers in its order.
 pub record AreLists (l : Lists) (es : List Entry) (r : Rows) (t : Packages) : Type 0 where

@@ -1,8 +1,8 @@
 -- What is kept of the numbered nodes: rows of what each reaches and needs, the numbers of their loops, and their order.
 use Rattle.std.specs.Prelude.{◌≡◌, ◌↔◌, ◌<◌, ◌+◌, ℕ, true, List, length, get_or}
-use Rattle.number_set.specs.Bits.{room_for}
-use Rattle.node_reach.specs.Edges.{Relates, HaveRoom}
-use Rattle.node_order.specs.Order.{IsOrder}
+use Rattle.numbered_nodes.specs.Bits.{room_for}
+use Rattle.numbered_nodes.specs.Edges.{Relates, HaveRoom}
+use Rattle.numbered_nodes.specs.Order.{IsOrder}
 use Rattle.mod_graph.specs.declared.entries.Entry.{Entry}
 use Rattle.mod_graph.specs.declared.rows.Rows.{Rows}
 use Rattle.mod_graph.specs.Edges.{reaches, needs, in_loop}

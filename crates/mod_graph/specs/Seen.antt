@@ -1,11 +1,11 @@
 -- What is read off the tables of a graph: the places of what a node needs, and what it sees of a module.
 use Rattle.std.specs.Prelude.{◌≡◌, ◌<◌, ℕ, Bool, ◌&&◌, ◌||◌, not, nat_eq, List, [], get_or, length, Some, None, Option, if◌then◌else◌}
 use Rattle.std.specs.List.{All}
-use Rattle.number_set.specs.Bits.{has}
+use Rattle.numbered_nodes.specs.Bits.{has}
 use Rattle.mod_graph.specs.declared.input.ViewOf.{ViewOf}
 use Rattle.mod_graph.specs.declared.input.ViewOf.TheVariants as view
 use Rattle.mod_graph.specs.declared.rows.Rows.{Rows}
-use Rattle.mod_graph.specs.Chains.{any_below, below}
+use Rattle.numbered_nodes.specs.Chains.{any_below, below}
 
 -- the place of each number below the length of an order, which has each of them once
 pub record ArePlaces (places order : List ℕ) : Type 0 where

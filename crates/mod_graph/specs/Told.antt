@@ -2,12 +2,12 @@
 use Rattle.std.specs.Prelude.{ℕ, Bool, true, false, ◌&&◌, not, is_some, List, [], ◌∷◌, ◌++◌, get_or, slice_get, Some, None, Option, codes, if◌then◌else◌}
 use Rattle.std.specs.List.{flat_map, find}
 use Rattle.std.specs.Option.{option_map_or}
-use Rattle.number_set.specs.Bits.{has}
+use Rattle.numbered_nodes.specs.Bits.{has}
 use Rattle.mk_base.specs.declared.name.Node.{Node}
 use Rattle.mk_base.specs.declared.diag.Diag.{Diag}
 use Rattle.hs_syntax.specs.declared.header.ImportItem.{ImportItem}
 use Rattle.mod_graph.specs.declared.entries.Entry.{Entry}
-use Rattle.mod_graph.specs.declared.packages.Packages.{Packages}
+use Rattle.package_graph.specs.declared.packages.Packages.{Packages}
 use Rattle.mod_graph.specs.declared.places.Numbers.{Numbers}
 use Rattle.mod_graph.specs.Entries.{diag_at}
 use Rattle.mod_graph.specs.Errors.{Found, InTree, InPackage, InPrim, Nowhere, not_found, no_boot, cycle_text, fault_errors}

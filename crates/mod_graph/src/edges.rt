@@ -2,7 +2,7 @@
 ghost use Rattle.std.specs.Prelude.{◌≡◌, ◌<◌, ◌↔◌, ◌++◌, ◌||◌, ℕ, IfOk, IfSome, OnOk, get_or, length, replicate, []};
 ghost use Rattle.std.specs.List.{All};
 ghost use Rattle.std.specs.Option.{option_to_list};
-ghost use Rattle.node_reach.specs.Edges.{lists, HasEdge};
+ghost use Rattle.numbered_nodes.specs.Edges.{lists, HasEdge};
 ghost use Rattle.mod_graph.specs.Places.{AreNumbers, module_in};
 ghost use Rattle.mod_graph.specs.Edges.{Leads, Joins, module_of};
 ghost use Rattle.mod_graph.specs.Targets as spec;

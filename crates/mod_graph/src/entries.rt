@@ -76,8 +76,9 @@ fn is_too_large(before: u64, size: u64) -> bool
     size > MOST_BYTES || before + counted(size) > MOST_BYTES_TOGETHER
 }
 
-/// The effective imports of a header; none where a diagnostic stands in its place.
-fn imports_in(
+/// What a module imports, the implicit import of Prelude too, where `prelude` says whether that is there if the module's
+/// pragmas say nothing; nothing where a diagnostic stands in place of its header. NoMemory where memory runs out.
+pub fn imports_in(
     alloc: Global,
     prelude: bool,
     header: &Result<Header, Diag>,

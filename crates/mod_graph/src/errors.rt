@@ -2,21 +2,20 @@
 ghost use Rattle.std.specs.Prelude.{◌≡◌, ◌<◌, ◌++◌, ◌∷◌, [], true, false, IfOk, OnOk, Some, codes, get_or, is_some, length, slice_get};
 ghost use Rattle.std.specs.List.{find};
 ghost use Rattle.std.specs.Option.{option_copied};
-ghost use Rattle.number_set.specs.Bits.{has, room_for};
-ghost use Rattle.node_reach.specs.Edges.{HaveRoom};
+ghost use Rattle.numbered_nodes.specs.Bits.{has, room_for};
+ghost use Rattle.numbered_nodes.specs.Edges.{HaveRoom};
 ghost use Rattle.mod_graph.specs.Entries.{diag_at};
 ghost use Rattle.mod_graph.specs.Errors.{errors_of, in_order};
 ghost use Rattle.mod_graph.specs.Errors as errors_spec;
 ghost use Rattle.mod_graph.specs.Places.{AreNumbers};
 ghost use Rattle.mod_graph.specs.Rows.{AreRows};
-ghost use Rattle.mod_graph.specs.Tables.{AreTables};
+ghost use Rattle.package_graph.specs.Tables.{AreTables};
 ghost use Rattle.mod_graph.specs.Told as told;
-ghost use Rattle.mod_graph.specs.declared.input.PackageModule.{PackageModule as ModuleOfPackage};
+ghost use Rattle.package_graph.specs.declared.modules.PackageModule.{PackageModule as ModuleOfPackage};
 ghost use Rattle.std.specs.Prelude.{List as Row};
 
 use crate::entries::Entry;
 use crate::found::{Found, find_module};
-use crate::packages::Packages;
 use crate::places::{Numbers, node_number};
 use crate::rows::Rows;
 use hs_syntax::header::ImportItem;
@@ -27,7 +26,8 @@ use mk_base::name::Node;
 use mk_base::place::Pos;
 use mk_base::plain::copied_items;
 use mk_base::text::Text;
-use number_set::NumberSet;
+use numbered_nodes::sets::NumberSet;
+use package_graph::packages::Packages;
 use std::alloc::Global;
 
 /// The first place of a source.

@@ -2,9 +2,9 @@
 ghost use Rattle.std.specs.Prelude.{◌≡◌};
 ghost use Rattle.mod_graph.specs.Found.{as_found, found_in, found_outside};
 
-use crate::packages::{Packages, first_package};
 use crate::places::{Numbers, module_number};
 use mk_base::text::Text;
+use package_graph::packages::{Packages, first_package};
 
 /// Where the name of a module is found: in the tree, at a place among the modules of packages, as Prim, or nowhere.
 #[derive(Clone, Copy)]

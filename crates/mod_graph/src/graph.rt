@@ -2,18 +2,17 @@
 ghost use Rattle.std.specs.Prelude.{◌≡◌, ◌<◌, ◌≤◌, ◌^◌, ◌&&◌, ℕ, Bool, IfOk, IfSome, Some, true, false, List as Row, [], length, map, not, nat_eq, slice_get, get_or, is_some, codes};
 ghost use Rattle.std.specs.List.{All};
 ghost use Rattle.std.specs.Option.{ForSome, option_copied};
-ghost use Rattle.number_set.specs.Bits.{has, room};
+ghost use Rattle.numbered_nodes.specs.Bits.{has, room};
 ghost use Rattle.mod_graph.specs.Graph.{Input, ids};
 ghost use Rattle.mod_graph.specs.Names.{same_text};
 ghost use Rattle.mod_graph.specs.Parts.{AreParts};
 ghost use Rattle.mod_graph.specs.Places.{number_in};
 ghost use Rattle.mod_graph.specs.Seen.{is_seen, number_seen, outside_seen};
-ghost use Rattle.mod_graph.specs.Tables.{first_in};
+ghost use Rattle.package_graph.specs.Tables.{first_in};
 
 use crate::entries::entries_of;
-use crate::input::{HeaderOf, PackageModule, ViewOf};
+use crate::input::{HeaderOf, ViewOf};
 use crate::lists::{Lists, lists_of};
-use crate::packages::{Packages, first_package, packages_of};
 use crate::places::{Numbers, module_number, node_number, numbers_of};
 use crate::rows::{Rows, rows_of};
 use mk_base::diag::Diag;
@@ -23,6 +22,8 @@ use mk_base::name::{ModName, Node};
 use mk_base::place::NodeId;
 use mk_base::plain::Plain;
 use mk_base::text::Text;
+use package_graph::modules::PackageModule;
+use package_graph::packages::{Packages, first_package, packages_of};
 use std::alloc::Global;
 
 /// The graph of a tree's modules and of the packages beside it.

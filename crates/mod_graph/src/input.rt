@@ -1,12 +1,8 @@
 //! What a graph of modules is made of, and what a node sees of a module.
 use hs_syntax::header::Header;
 use mk_base::diag::Diag;
-use mk_base::list::List;
-use mk_base::memory::NoMemory;
-use mk_base::name::{ModName, Node, Unit};
+use mk_base::name::Node;
 use mk_base::place::NodeId;
-use mk_base::plain::Plain;
-use std::alloc::Global;
 
 /// A node of the tree: the size of its source in bytes, and its header, or the diagnostic that stands in place of one.
 #[derive(Debug, Drop)]
@@ -16,24 +12,6 @@ pub struct HeaderOf {
     pub header: Result<Header, Diag>,
 }
 
-/// Whether a package's interface can be used: its bytes are an interface of its unit and module, and all names in it
-/// are there.
-#[derive(Clone, Copy, Debug, PartialEq, Eq)]
-pub enum PackageState {
-    Good,
-    Damaged,
-    Dangling,
-}
-
-/// A module of a package, with the modules that its interface imports.
-#[derive(Debug, Drop)]
-pub struct PackageModule {
-    pub unit: Unit,
-    pub module: ModName,
-    pub reaches: List<ModName>,
-    pub state: PackageState,
-}
-
 /// What a node sees of a module: a node of the tree by its place in the order, a package's module by its place in the
 /// list of them, or Prim.
 #[derive(Debug, Drop)]
@@ -41,32 +19,4 @@ pub enum ViewOf {
     Tree(NodeId),
     Package(u32),
     Prim,
-}
-
-impl Plain for PackageState {
-    fn same(&self, other: &PackageState) -> bool {
-        *self == *other
-    }
-
-    fn copy(&self, _alloc: Global) -> Result<PackageState, NoMemory> {
-        Ok(*self)
-    }
-}
-
-impl Plain for PackageModule {
-    fn same(&self, other: &PackageModule) -> bool {
-        self.unit.same(&other.unit)
-            && self.module.same(&other.module)
-            && self.reaches.same(&other.reaches)
-            && self.state.same(&other.state)
-    }
-
-    fn copy(&self, alloc: Global) -> Result<PackageModule, NoMemory> {
-        Ok(PackageModule {
-            unit: self.unit.copy(alloc)?,
-            module: self.module.copy(alloc)?,
-            reaches: self.reaches.copy(alloc)?,
-            state: self.state.copy(alloc)?,
-        })
-    }
 }

@@ -1,20 +1,19 @@
 //! What a graph lists for each place of its order.
 ghost use Rattle.std.specs.Prelude.{◌≡◌, ◌<◌, ◌≤◌, ◌^◌, ◌&&◌, ℕ, IfOk, List as Row, [], false, length, map, not, get_or};
 ghost use Rattle.std.specs.List.{All};
-ghost use Rattle.number_set.specs.Bits.{has, room, room_for};
-ghost use Rattle.mod_graph.specs.Chains.{below};
+ghost use Rattle.numbered_nodes.specs.Bits.{has, room, room_for};
+ghost use Rattle.numbered_nodes.specs.Chains.{below};
 ghost use Rattle.mod_graph.specs.Errors.{errors_of};
 ghost use Rattle.mod_graph.specs.Graph.{Input, entries as entries_in, ids, nodes_at};
 ghost use Rattle.mod_graph.specs.Parts.{AreLists};
 ghost use Rattle.mod_graph.specs.Places.{AreNumbers};
 ghost use Rattle.mod_graph.specs.Rows.{AreRows};
 ghost use Rattle.mod_graph.specs.Seen.{ArePlaces, is_place, places_needed};
-ghost use Rattle.mod_graph.specs.Tables.{AreTables};
-ghost use Rattle.mod_graph.specs.declared.input.PackageModule.{PackageModule as ModuleOfPackage};
+ghost use Rattle.package_graph.specs.Tables.{AreTables};
+ghost use Rattle.package_graph.specs.declared.modules.PackageModule.{PackageModule as ModuleOfPackage};
 
 use crate::entries::Entry;
 use crate::errors::node_errors;
-use crate::packages::Packages;
 use crate::places::Numbers;
 use crate::reached::reached_packages;
 use crate::rows::Rows;
@@ -24,7 +23,8 @@ use mk_base::memory::NoMemory;
 use mk_base::name::Node;
 use mk_base::place::NodeId;
 use mk_base::plain::Plain;
-use number_set::NumberSet;
+use numbered_nodes::sets::NumberSet;
+use package_graph::packages::Packages;
 use std::alloc::Global;
 
 /// The nodes in their order, for each place what its node needs, its diagnostics and the package modules that it reaches,

@@ -8,10 +8,10 @@ use crate::edges::{module_edges, modules_of, node_edges};
 use crate::entries::Entry;
 use crate::places::Numbers;
 use mk_base::memory::NoMemory;
-use node_order::needs::{NeedsRows, needs_rows};
-use node_order::order::order_of;
-use node_reach::search::reach_rows;
-use number_set::NumberSet;
+use numbered_nodes::needs::{NeedsRows, needs_rows, node_loops};
+use numbered_nodes::order::order_of;
+use numbered_nodes::search::reach_rows;
+use numbered_nodes::sets::NumberSet;
 use std::alloc::Global;
 
 /// A row for each node with what it reaches and one with what it needs, the number of each node's loop, which is its
@@ -22,19 +22,6 @@ pub struct Rows {
     pub needs: Vec<NumberSet>,
     pub loops: Vec<usize>,
     pub order: Vec<usize>,
-}
-
-/// The number of each node's loop: that of its module.
-fn node_loops(alloc: Global, loops: &[usize], module_of: &[usize]) -> Result<Vec<usize>, NoMemory>
-    requires { All (λ m. m < length loops.now) module_of.now }
-    ensures len { IfOk result (λ v. length v.items ≡ length module_of.now) }
-    ensures loops { IfOk result (λ v. (a : ℕ) → a < length module_of.now → get_or v.items a 0 ≡ get_or loops.now (get_or module_of.now a 0) 0) }
-{
-    let mut own = Vec::new(alloc);
-    for a in 0..module_of.len() {
-        own.push(loops[module_of[a]])?;
-    }
-    Ok(own)
 }
 
 /// The rows of a tree. NoMemory where memory runs out.

@@ -16,7 +16,7 @@ use Rattle.build_theory.specs.Laws.{IsIn, AreDistinct}
 use Rattle.build_theory.proofs.Lists.{both_ways, differ, clash, all_at, look_yes, look_no}
 use Rattle.number_set.proofs.Booleans.{is_same, is_other}
 use Rattle.mod_graph.specs.Names.{same_node}
-use Rattle.mod_graph.specs.Chains.{below}
+use Rattle.numbered_nodes.specs.Chains.{below}
 use Rattle.mod_graph.specs.Edges.{needs_node}
 use Rattle.mod_graph.specs.Graph.{entries, ids, needs_place, needs_in}
 use Rattle.mod_graph.proofs.NodeTests.{node_itself}

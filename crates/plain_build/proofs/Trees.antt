@@ -21,7 +21,7 @@ use Rattle.plain_build.specs.declared.build.PlainBuild.{PlainBuild}
 use Rattle.plain_build.specs.declared.done.Done.{Done}
 use Rattle.plain_build.specs.declared.sources.Source.{Source}
 use Rattle.mod_graph.specs.declared.input.HeaderOf.{HeaderOf}
-use Rattle.mod_graph.specs.declared.input.PackageModule.{PackageModule}
+use Rattle.package_graph.specs.declared.modules.PackageModule.{PackageModule}
 use Rattle.plain_build.specs.Plain.{PlainTree, header_for, plain, input_of, source_at, sources_of}
 use Rattle.plain_build.specs.Result.{PlainJudged, IsUnitName, AreDistinct, AreShort, AreResults, nodes_in, is_checked, checks_in, built}
 use Rattle.plain_build.specs.Steps.{pairs}

@@ -3,7 +3,7 @@ use Rattle.std.specs.Prelude.{Vec}
 use Rattle.std.specs.Option.{IfSome}
 use Rattle.std.specs.Global.{Global}
 use Rattle.std.proofs.lemmas.List.{get_or-map, map-set, length-map}
-use Rattle.node_reach.specs.Edges.{lists}
+use Rattle.numbered_nodes.specs.Edges.{lists}
 use Rattle.mod_graph.specs.Places.{module_in}
 use Rattle.mod_graph.specs.Targets as spec
 use Rattle.mod_graph.proofs.EdgeRows.{imports_added}

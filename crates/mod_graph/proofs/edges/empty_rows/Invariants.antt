@@ -1,5 +1,5 @@
 use Rattle.std.proofs.Common.{◌≡◌, [], replicate}
-use Rattle.node_reach.specs.Edges.{lists}
+use Rattle.numbered_nodes.specs.Edges.{lists}
 use Rattle.mod_graph.proofs.edges.empty_rows.Given as goal
 
 abbrev pub invariant-loop-turn : goal.invariant-loop-turn

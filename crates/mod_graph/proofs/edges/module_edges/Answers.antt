@@ -1,7 +1,7 @@
 use Rattle.std.proofs.Common.{ap, ◌∙◌}
 use Rattle.std.specs.List.{list_any}
 use Rattle.std.proofs.lemmas.List.{take_all}
-use Rattle.node_reach.specs.Edges.{lists}
+use Rattle.numbered_nodes.specs.Edges.{lists}
 use Rattle.mod_graph.specs.declared.entries.Entry.{Entry}
 use Rattle.mod_graph.specs.Targets as spec
 use Rattle.mod_graph.proofs.EdgeRows.{rows_join}

@@ -1,6 +1,6 @@
 use Rattle.std.proofs.Common.{◌≡◌, ℕ, length, take}
 use Rattle.std.specs.List.{list_any}
-use Rattle.node_reach.specs.Edges.{lists}
+use Rattle.numbered_nodes.specs.Edges.{lists}
 use Rattle.mod_graph.specs.declared.entries.Entry.{Entry}
 use Rattle.mod_graph.specs.Targets as spec
 use Rattle.mod_graph.proofs.edges.module_edges.Given as goal

@@ -1,7 +1,7 @@
 use Rattle.std.proofs.Common.{ap, ◌∙◌}
 use Rattle.std.specs.Prelude.{map}
 use Rattle.std.proofs.lemmas.List.{take_all}
-use Rattle.node_reach.specs.Edges.{lists}
+use Rattle.numbered_nodes.specs.Edges.{lists}
 use Rattle.mod_graph.specs.Targets as spec
 use Rattle.mod_graph.proofs.EdgeRows.{rows_lead}
 use Rattle.mod_graph.proofs.edges.node_edges.Goals as goal

@@ -1,6 +1,6 @@
 use Rattle.std.proofs.Common.{◌≡◌, take}
 use Rattle.std.specs.Prelude.{map}
-use Rattle.node_reach.specs.Edges.{lists}
+use Rattle.numbered_nodes.specs.Edges.{lists}
 use Rattle.mod_graph.specs.Targets as spec
 use Rattle.mod_graph.proofs.edges.node_edges.Given as goal
 

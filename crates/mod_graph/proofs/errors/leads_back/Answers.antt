@@ -1,7 +1,7 @@
 use Rattle.std.proofs.Common.{◌∙◌, ℕ, false, [], get_or, Option, ap, sym}
 use Rattle.std.specs.Option.{option_map_or}
-use Rattle.number_set.specs.Bits.{has}
-use Rattle.node_reach.proofs.Rows.{beyond}
+use Rattle.numbered_nodes.specs.Bits.{has}
+use Rattle.numbered_nodes.proofs.Rows.{beyond}
 use Rattle.mod_graph.proofs.errors.leads_back.Goals as goal
 
 pub returns-in-None-get : goal.returns-in-None-get

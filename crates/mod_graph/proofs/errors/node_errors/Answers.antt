@@ -1,8 +1,8 @@
 use Rattle.std.proofs.Common.{◌≡◌, ◌∙◌, ◌++◌, ◌<◌, List, ℕ, Some, length, ap, sym, refl, subst}
 use Rattle.std.specs.Prelude.{slice_get}
 use Rattle.std.proofs.lemmas.Option.{slice_get_read}
-use Rattle.number_set.specs.Bits.{room_for}
-use Rattle.node_reach.specs.Edges.{HaveRoom}
+use Rattle.numbered_nodes.specs.Bits.{room_for}
+use Rattle.numbered_nodes.specs.Edges.{HaveRoom}
 use Rattle.mk_base.specs.declared.diag.Diag.{Diag}
 use Rattle.hs_syntax.specs.declared.header.ImportItem.{ImportItem}
 use Rattle.mod_graph.specs.declared.entries.Entry.{Entry}

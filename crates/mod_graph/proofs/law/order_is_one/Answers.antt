@@ -1,5 +1,5 @@
 use Rattle.std.proofs.Common.{◌≡◌, ap, sym, ◌∙◌, true, length}
-use Rattle.node_order.proofs.OrderLaws.{one_order}
+use Rattle.numbered_nodes.proofs.OrderLaws.{one_order}
 use Rattle.mod_graph.specs.Edges.{needs}
 use Rattle.mod_graph.specs.Graph.{nodes_at}
 use Rattle.mod_graph.proofs.law.order_is_one.Goals as goal

@@ -1,7 +1,7 @@
 use Rattle.std.proofs.Common.{◌≡◌, List, map, take}
-use Rattle.mod_graph.specs.declared.input.PackageModule.{PackageModule}
+use Rattle.package_graph.specs.declared.modules.PackageModule.{PackageModule}
 use Rattle.mod_graph.specs.Errors.{errors_of}
-use Rattle.mod_graph.specs.Tables.{AreTables}
+use Rattle.package_graph.specs.Tables.{AreTables}
 use Rattle.mod_graph.proofs.lists.all_errors.Given as goal
 
 abbrev pub invariant-loop-number : goal.invariant-loop-number

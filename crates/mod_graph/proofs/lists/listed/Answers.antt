@@ -1,6 +1,7 @@
 use Rattle.std.proofs.Common.{◌&&◌, not, ℕ, Bool, List, refl, sym, ◌∙◌, arith}
-use Rattle.number_set.specs.Bits.{has}
-use Rattle.mod_graph.proofs.Skips.{NoneFrom, below_skip, ids_found, outside, stands}
+use Rattle.numbered_nodes.specs.Bits.{has}
+use Rattle.numbered_nodes.proofs.Below.{NoneFrom, below_skip}
+use Rattle.mod_graph.proofs.Skips.{ids_found, outside, stands}
 use Rattle.mod_graph.proofs.lists.listed.Goals as goal
 
 pub loop-place-preserved : goal.loop-place-preserved

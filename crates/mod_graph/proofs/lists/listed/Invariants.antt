@@ -1,6 +1,6 @@
 use Rattle.std.proofs.Common.{◌≡◌, ◌≤◌, ◌-◌, ◌&&◌, not}
-use Rattle.number_set.specs.Bits.{has}
-use Rattle.mod_graph.specs.Chains.{below}
+use Rattle.numbered_nodes.specs.Bits.{has}
+use Rattle.numbered_nodes.specs.Chains.{below}
 use Rattle.mod_graph.specs.Graph.{ids}
 use Rattle.mod_graph.proofs.lists.listed.Given as goal
 

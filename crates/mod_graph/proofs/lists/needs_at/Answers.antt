@@ -1,7 +1,7 @@
 use Rattle.std.proofs.Common.{◌≡◌, ◌&&◌, not, ℕ, List, length, ◌∙◌}
 use Rattle.mk_base.specs.declared.place.NodeId.{NodeId}
-use Rattle.number_set.specs.Bits.{has}
-use Rattle.mod_graph.specs.Chains.{below}
+use Rattle.numbered_nodes.specs.Bits.{has}
+use Rattle.numbered_nodes.specs.Chains.{below}
 use Rattle.mod_graph.specs.Graph.{ids}
 use Rattle.mod_graph.specs.Seen.{places_needed}
 use Rattle.mod_graph.proofs.Skips.{if_ok, needed_listed}

@@ -1,6 +1,7 @@
 use Rattle.std.proofs.Common.{◌&&◌, ℕ, Bool, List, get_or, length, nat_eq, ap, sym, ◌∙◌, arith, rules}
-use Rattle.number_set.specs.Bits.{has}
-use Rattle.mod_graph.proofs.Skips.{NoneFrom, absent_in, any_skip, place_found}
+use Rattle.numbered_nodes.specs.Bits.{has}
+use Rattle.numbered_nodes.proofs.Below.{NoneFrom, absent_in, any_skip}
+use Rattle.mod_graph.proofs.Skips.{place_found}
 use Rattle.mod_graph.proofs.lists.placed_in.Goals as goal
 
 pub loop-number-preserved : goal.loop-number-preserved

@@ -1,6 +1,6 @@
 use Rattle.std.proofs.Common.{◌≡◌, ◌≤◌, ◌-◌, ◌&&◌, ℕ, get_or, length, nat_eq}
-use Rattle.number_set.specs.Bits.{has, room, room_for}
-use Rattle.mod_graph.specs.Chains.{any_below}
+use Rattle.numbered_nodes.specs.Bits.{has, room, room_for}
+use Rattle.numbered_nodes.specs.Chains.{any_below}
 use Rattle.mod_graph.proofs.lists.placed_in.Given as goal
 
 abbrev pub invariant-loop-number : goal.invariant-loop-number

@@ -1,6 +1,6 @@
 use Rattle.std.proofs.Common.{◌≡◌, ◌∙◌, ◌≤◌, false, length, ap, sym, subst}
-use Rattle.number_set.specs.Bits.{has}
-use Rattle.node_reach.proofs.Rows.{beyond}
+use Rattle.numbered_nodes.specs.Bits.{has}
+use Rattle.numbered_nodes.proofs.Rows.{beyond}
 use Rattle.mod_graph.specs.Environments.{brings_in}
 use Rattle.mod_graph.specs.Errors.{Found}
 use Rattle.mod_graph.specs.Found.{found_in}

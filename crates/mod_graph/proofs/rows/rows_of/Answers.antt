@@ -1,9 +1,9 @@
 use Rattle.std.proofs.Common.{◌≡◌, ◌↔◌, ◌<◌, ◌≤◌, ◌+◌, ℕ, List, Vec, true, length, get_or, ap, sym, ◌∙◌, subst, arith}
 use Rattle.std.specs.Global.{Global}
-use Rattle.number_set.specs.Bits.{room_for}
-use Rattle.node_reach.specs.Reach.{InOneLoop}
-use Rattle.node_reach.specs.Edges.{lists, HasEdge, InRange, HaveRoom, Relates}
-use Rattle.node_order.specs.Order.{IsOrder}
+use Rattle.numbered_nodes.specs.Bits.{room_for}
+use Rattle.numbered_nodes.specs.Reach.{InOneLoop}
+use Rattle.numbered_nodes.specs.Edges.{lists, HasEdge, InRange, HaveRoom, Relates}
+use Rattle.numbered_nodes.specs.Order.{IsOrder}
 use Rattle.mod_graph.specs.Edges.{Leads, Joins, module_of, needs}
 use Rattle.mod_graph.specs.LoopRows.{IsFirstInLoop}
 use Rattle.mod_graph.proofs.RowTests.{nodes_range, modules_range, follows_rows, reach_tests, needs_tests, loop_tests, order_alike}

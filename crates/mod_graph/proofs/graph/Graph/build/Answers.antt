@@ -1,7 +1,7 @@
 use Rattle.std.proofs.Common.{◌≡◌, ◌<◌, length, ap, ◌∙◌, subst, arith}
 use Rattle.mod_graph.specs.Entries.{entries_of}
 use Rattle.mod_graph.specs.Graph.{Input, entries}
-use Rattle.mod_graph.specs.Tables.{AreTables}
+use Rattle.package_graph.specs.Tables.{AreTables}
 use Rattle.mod_graph.proofs.Parts.{entries_count, parts_of}
 use Rattle.mod_graph.proofs.graph.Graph.build.Goals as goal
 

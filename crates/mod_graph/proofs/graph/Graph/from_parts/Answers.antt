@@ -1,7 +1,7 @@
 use Rattle.std.proofs.Common.{◌≡◌, ◌<◌, ◌≤◌, ◌+◌, ℕ, get_or, length, refl, ap, sym, ◌∙◌, subst, arith}
 use Rattle.std.proofs.lemmas.List.{get_or_default, length-map}
 use Rattle.std.proofs.lemmas.Option.{slice_get_within}
-use Rattle.mod_graph.specs.declared.input.PackageModule.{PackageModule}
+use Rattle.package_graph.specs.declared.modules.PackageModule.{PackageModule}
 use Rattle.mod_graph.specs.Errors.{errors_of}
 use Rattle.mod_graph.specs.Graph.{entries}
 use Rattle.mod_graph.specs.Names.{same_text, node_named}

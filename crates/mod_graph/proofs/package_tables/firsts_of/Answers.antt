@@ -1,8 +1,0 @@
-use Rattle.mod_graph.specs.declared.input.PackageModule.{PackageModule}
-use Rattle.mod_graph.specs.Names.{same_text}
-use Rattle.mod_graph.proofs.Positions.{first_next}
-use Rattle.mod_graph.proofs.package_tables.firsts_of.Goals as goal
-
-pub loop-place-preserved : goal.loop-place-preserved
-loop-place-preserved c = λ m.
-    first_next (λ (p : PackageModule). same_text m p.«module».text) c.args.modules.now c.loop-place.place c.index-modules-place.result _ _ c.loop-place-test.true c.index-modules-place.is (c.in_ok-add_first.ensures m) (c.loop-place.invariant m)

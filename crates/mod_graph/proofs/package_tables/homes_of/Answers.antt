@@ -1,9 +1,0 @@
-use Rattle.std.proofs.Common.{◌&&◌}
-use Rattle.mod_graph.specs.declared.input.PackageModule.{PackageModule}
-use Rattle.mod_graph.specs.Names.{same_text}
-use Rattle.mod_graph.proofs.Positions.{first_next}
-use Rattle.mod_graph.proofs.package_tables.homes_of.Goals as goal
-
-pub loop-place-preserved : goal.loop-place-preserved
-loop-place-preserved c = λ u m.
-    first_next (λ (p : PackageModule). same_text u p.unit.text && same_text m p.«module».text) c.args.modules.now c.loop-place.place c.index-modules-place.result _ _ c.loop-place-test.true c.index-modules-place.is (c.in_ok-add_home.ensures u m) (c.loop-place.invariant u m)

@@ -1,7 +1,0 @@
-use Rattle.std.proofs.Common.{◌≡◌, ℕ, List, take}
-use Rattle.mod_graph.specs.Packages.{in_package}
-use Rattle.mod_graph.specs.PackageTables.{home_in}
-use Rattle.mod_graph.proofs.package_tables.homes_of.Given as goal
-
-abbrev pub invariant-loop-place : goal.invariant-loop-place
-invariant-loop-place l = (u m : List ℕ) → home_in l.homes u m ≡ in_package (take l.place l.modules) u m

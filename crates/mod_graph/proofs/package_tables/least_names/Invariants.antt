@@ -1,7 +1,0 @@
-use Rattle.std.proofs.Common.{◌≡◌, map, take}
-use Rattle.number_set.specs.Bits.{has}
-use Rattle.mod_graph.specs.PackageTables.{is_state, state_places, least_at}
-use Rattle.mod_graph.proofs.package_tables.least_names.Given as goal
-
-abbrev pub invariant-loop-row : goal.invariant-loop-row
-invariant-loop-row l = l.names.items ≡ map (λ row. least_at l.modules (has row) (state_places (is_state l.fn.state) 0 l.modules)) (take l.row-index l.rows)

@@ -1,9 +1,0 @@
-use Rattle.std.proofs.Common.{◌≡◌, ℕ, true, false, [], get_or, length}
-use Rattle.number_set.specs.Bits.{has, room, room_for}
-use Rattle.mod_graph.proofs.reached.plain_nodes.Given as goal
-
-abbrev pub invariant-loop-b : goal.invariant-loop-b
-invariant-loop-b l = record {
-  room : room l.plain ≡ room_for (length l.own);
-  plain : (b k : ℕ) → has l.plain b ≡ true → has (get_or l.own b []) k ≡ false;
-}

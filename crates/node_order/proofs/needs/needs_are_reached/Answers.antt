@@ -1,7 +1,0 @@
-use Rattle.std.proofs.Common.{get_or}
-use Rattle.node_reach.specs.Edges.{HasEdge}
-use Rattle.node_order.proofs.Leading.{needs_law}
-use Rattle.node_order.proofs.needs.needs_are_reached.Goals as goal
-
-pub returns : goal.returns
-returns c = λ nodes modules module_of n follows decide. needs_law (HasEdge nodes) (HasEdge modules) (λ a. get_or module_of a 0) n follows decide

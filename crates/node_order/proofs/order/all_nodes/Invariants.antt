@@ -1,9 +1,0 @@
-use Rattle.std.proofs.Common.{◌≡◌, ◌<◌, ℕ, true}
-use Rattle.number_set.specs.Bits.{has, room, room_for}
-use Rattle.node_order.proofs.order.all_nodes.Given as goal
-
-abbrev pub invariant-loop-node : goal.invariant-loop-node
-invariant-loop-node l = record {
-  room : room l.all ≡ room_for l.count;
-  all : (x : ℕ) → x < l.node → has l.all x ≡ true;
-}

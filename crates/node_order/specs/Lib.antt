@@ -1,4 +1,0 @@
-pub mod Needs
-pub mod Away
-pub mod Order
-pub mod Waiting

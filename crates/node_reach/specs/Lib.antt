@@ -1,4 +1,0 @@
-pub mod Reach
-pub mod Edges
-pub mod Search
-pub mod Mates

@@ -1,4 +1,0 @@
-pub mod Words
-pub mod Booleans
-pub mod Absent
-pub mod Outside

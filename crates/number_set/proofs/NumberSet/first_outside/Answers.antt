@@ -1,6 +1,0 @@
-use Rattle.std.proofs.Common.{◌*◌}
-use Rattle.number_set.proofs.Outside.{word_more}
-use Rattle.number_set.proofs.NumberSet.first_outside.Goals as goal
-
-pub loop-i-preserved : goal.loop-i-preserved
-loop-i-preserved c = word_more c.args.self.now c.args.other.now (c.args.start * 64) c.loop-i.i c.args.bound c.loop-i.invariant c.in_default.ensures.none

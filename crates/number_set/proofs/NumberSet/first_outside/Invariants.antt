@@ -1,6 +1,0 @@
-use Rattle.std.proofs.Common.{◌≡◌, ◌<◌, ◌≤◌, ◌*◌, ℕ, true}
-use Rattle.number_set.specs.Bits.{has}
-use Rattle.number_set.proofs.NumberSet.first_outside.Given as goal
-
-abbrev pub invariant-loop-i : goal.invariant-loop-i
-invariant-loop-i l = (j : ℕ) → l.start * 64 ≤ j → j < l.i * 64 → j < l.bound → has l.self j ≡ true → has l.other j ≡ true

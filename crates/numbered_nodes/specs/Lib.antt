@@ -1,0 +1,10 @@
+pub mod Bits
+pub mod Edges
+pub mod Reach
+pub mod Search
+pub mod Mates
+pub mod Needs
+pub mod Away
+pub mod Order
+pub mod Waiting
+pub mod Chains

@@ -1,0 +1,5 @@
+pub mod Joined
+pub mod Positions
+pub mod Members
+pub mod PackageRows
+pub mod LeastNames

@@ -1,0 +1,5 @@
+pub mod Names
+pub mod Packages
+pub mod Targets
+pub mod Tables
+pub mod Environments
