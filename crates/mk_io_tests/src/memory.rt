@@ -1,12 +1,15 @@
-use crate::file::{File, same_file};
-use crate::memory::{MemSink, MemSource};
-use crate::outside::{Failed, IoErr, Sink, Source};
-use crate::write::write_all;
+//! Sources and sinks in memory, and files.
+
 use mk_base::list::List;
 use mk_base::plain::Plain;
 use mk_base::text::Text;
+use mk_io::file::{File, same_file};
+use mk_io::memory::{MemSink, MemSource};
+use mk_io::outside::{Failed, IoErr, Sink, Source};
+use mk_io::write::write_all;
 use std::test::Fail;
 
+/// A source gives pieces in order, and a call that is listed fails and leaves all as it was.
 #[test]
 fn reads_in_pieces_and_fails_where_told(rt: HostRuntime) -> Result<(), Fail> {
     let alloc = rt.alloc();
@@ -29,6 +32,7 @@ fn reads_in_pieces_and_fails_where_told(rt: HostRuntime) -> Result<(), Fail> {
     Ok(())
 }
 
+/// A sink takes what it is given, and nothing at a call that is listed.
 #[test]
 fn writes_whole_texts_and_fails_where_told(rt: HostRuntime) -> Result<(), Fail> {
     let alloc = rt.alloc();
@@ -44,6 +48,7 @@ fn writes_whole_texts_and_fails_where_told(rt: HostRuntime) -> Result<(), Fail> 
     Ok(())
 }
 
+/// A copy of a file is that file, and files of other bytes are not.
 #[test]
 fn copies_files(rt: HostRuntime) -> Result<(), Fail> {
     let alloc = rt.alloc();
@@ -63,6 +68,7 @@ fn copies_files(rt: HostRuntime) -> Result<(), Fail> {
     Ok(())
 }
 
+/// Each error prints its text.
 #[test]
 fn errors_have_texts(rt: HostRuntime) -> Result<(), Fail> {
     let alloc = rt.alloc();
