@@ -1,4 +1,4 @@
-//! The standard streams, with their faults counted. They tell nothing of what they hold.
+//! Streams of std, with their faults counted. They tell nothing of what they hold.
 ghost use Rattle.std.specs.Prelude.{None};
 
 use mk_io::outside::{Failed, IoErr, Sink, Source};
