@@ -234,6 +234,7 @@ fn is_played<R: Threads>(threads: &R, alloc: Global, row: &[u8]) -> Result<bool,
     Ok(true)
 }
 
+/// Sessions of several commands, with their ends and outputs.
 #[test]
 fn commands_are_carried_out(rt: HostRuntime) -> Result<(), Fail> {
     for row in COMMANDS.as_bytes().split(|byte| *byte == b'\n') {
@@ -245,6 +246,7 @@ fn commands_are_carried_out(rt: HostRuntime) -> Result<(), Fail> {
     Ok(())
 }
 
+/// Trees of the first form, and imports that are there or not.
 #[test]
 fn forms_and_imports_are_reported(rt: HostRuntime) -> Result<(), Fail> {
     for row in FORMS_AND_IMPORTS.as_bytes().split(|byte| *byte == b'\n') {
@@ -256,6 +258,7 @@ fn forms_and_imports_are_reported(rt: HostRuntime) -> Result<(), Fail> {
     Ok(())
 }
 
+/// Names that are in scope, ambiguous, or defined twice.
 #[test]
 fn scopes_are_reported(rt: HostRuntime) -> Result<(), Fail> {
     for row in SCOPES.as_bytes().split(|byte| *byte == b'\n') {
@@ -267,6 +270,7 @@ fn scopes_are_reported(rt: HostRuntime) -> Result<(), Fail> {
     Ok(())
 }
 
+/// Sources with comments, braces and layout.
 #[test]
 fn sources_are_laid_out(rt: HostRuntime) -> Result<(), Fail> {
     for row in LAID_OUT.as_bytes().split(|byte| *byte == b'\n') {
@@ -278,6 +282,7 @@ fn sources_are_laid_out(rt: HostRuntime) -> Result<(), Fail> {
     Ok(())
 }
 
+/// Headers, pragmas, cycles and boot files.
 #[test]
 fn headers_and_graphs_are_reported(rt: HostRuntime) -> Result<(), Fail> {
     for row in HEADERS.as_bytes().split(|byte| *byte == b'\n') {
@@ -289,6 +294,7 @@ fn headers_and_graphs_are_reported(rt: HostRuntime) -> Result<(), Fail> {
     Ok(())
 }
 
+/// Sources with a place at which no lexeme begins.
 #[test]
 fn bad_lexemes_are_reported(rt: HostRuntime) -> Result<(), Fail> {
     for row in BAD_LEXEMES.as_bytes().split(|byte| *byte == b'\n') {

@@ -1,43 +1,140 @@
-ghost use Rattle.std.specs.Prelude.{◌≡◌, ◌≤◌, ◌<◌};
+//! Sessions in memory, with what they come to.
 
-use crate::run::run_alone;
+ghost use Rattle.std.specs.Prelude.{◌≡◌, ◌≤◌, ◌<◌, None};
+
+use hsmake_top::run::run_alone;
 use mk_base::list::List;
+use mk_base::plain::Plain;
 use mk_base::status::Status;
-use mk_base::steps::{Steps, Tokens};
+use mk_base::steps::{Ledger, Steps, Tokens};
 use mk_io::memory::{MemSink, MemSource};
+use mk_io::outside::{IoErr, Sink};
 use std::alloc::Global;
+use std::cell::Cell;
 use std::marker::Brand;
-use std::sync::ledger::{Blank, Ledger};
+use std::sync::ledger::Blank;
 use std::test::Fail;
 use std::thread::Threads;
 
 const EMPTY_BUILD: &[u8] = b"build: 0 ok, 0 checked, 0 failed, 0 blocked\n";
 
-fn run_counted<K: Ledger, R: Threads>(
+/// A ledger that shows its count.
+#[derive(Drop)]
+struct Shown<'a, K: std::sync::ledger::Ledger> {
+    tokens: Tokens<K>,
+    seen: &'a Cell<u64>,
+}
+
+impl<'a, K: std::sync::ledger::Ledger> Ledger for Shown<'a, K> {
+    ghost count = { λ s. s.tokens.book.total };
+
+    fn add_one(&mut self) {
+        self.tokens.add_one();
+        self.seen.set(self.seen.get().saturating_add(1));
+    }
+}
+
+/// A sink in memory that takes at most `piece` bytes a write.
+#[derive(Drop)]
+struct PieceSink {
+    memory: MemSink,
+    piece: usize,
+    ghost some: { 1 ≤ piece },
+}
+
+impl Sink for PieceSink {
+    ghost taken = { λ _. None };
+
+    ghost faults = { λ s. s.memory.faults };
+
+    fn write(&mut self, bytes: &[u8]) -> Result<usize, IoErr> {
+        let count = self.piece.min(bytes.len());
+        self.memory.write(&bytes[..count])
+    }
+}
+
+/// How the streams of a session behave: the most bytes of a read and of a write, and the calls, from 0, that fail.
+#[derive(Clone, Copy)]
+pub(crate) struct Streams<'a> {
+    pub(crate) read_piece: usize,
+    pub(crate) reads: &'a [u64],
+    pub(crate) write_piece: usize,
+    pub(crate) writes: &'a [u64],
+}
+
+/// What a session came to: its answer, what was written, how many modules were checked, how often each stream failed,
+/// and how many bytes of the input are left.
+#[derive(Drop)]
+pub(crate) struct Outcome {
+    pub(crate) status: Status,
+    pub(crate) written: List<u8>,
+    pub(crate) checks: u64,
+    pub(crate) read_faults: u64,
+    pub(crate) write_faults: u64,
+    pub(crate) left: usize,
+}
+
+fn run_counted<K: std::sync::ledger::Ledger, R: Threads, O: Sink>(
     threads: &R,
     alloc: Global,
     blank: Blank,
     words: &[String],
     input: &mut MemSource,
-    output: &mut MemSink,
+    output: &mut O,
+    seen: &Cell<u64>,
 ) -> Status
     requires name { blank.name ≡ K.name }
     requires parts { blank.parts ≡ K.parts }
     requires one { 0 < blank.parts }
 {
     let (book, share) = blank.open::<K>();
-    let mut steps = Steps::new(threads, Tokens { book, share });
+    let tokens = Tokens { book, share };
+    let mut steps = Steps::new(threads, Shown { tokens, seen });
     run_alone(alloc, words, input, output, &mut steps)
 }
 
-fn run<R: Threads>(
+fn run<R: Threads, O: Sink>(
     threads: &R,
     alloc: Global,
     words: &[String],
     input: &mut MemSource,
-    output: &mut MemSink,
+    output: &mut O,
+    seen: &Cell<u64>,
 ) -> Status {
-    run_counted::<Brand, R>(threads, alloc, Blank::new(1), words, input, output)
+    run_counted::<Brand, R, O>(threads, alloc, Blank::new(1), words, input, output, seen)
+}
+
+/// What a session of this script comes to over such streams.
+pub(crate) fn play<R: Threads>(
+    threads: &R,
+    alloc: Global,
+    script: &[u8],
+    streams: Streams<'_>,
+) -> Result<Outcome, Fail>
+    requires read { 1 ≤ streams.read_piece }
+    requires write { 1 ≤ streams.write_piece }
+{
+    let mut words = Vec::new(alloc);
+    words.push(String::from_str(alloc, "session")?)?;
+    let left = List::from_vec(Vec::from_slice(alloc, script)?);
+    let reads = List::from_vec(Vec::from_slice(alloc, streams.reads)?);
+    let mut input = MemSource::new(left, streams.read_piece, reads);
+    let writes = List::from_vec(Vec::from_slice(alloc, streams.writes)?);
+    let mut output = PieceSink {
+        memory: MemSink::new(alloc, writes),
+        piece: streams.write_piece,
+    };
+    let seen = Cell::new(0);
+    let status = run(threads, alloc, &words, &mut input, &mut output, &seen);
+    let written = output.memory.taken.copy(alloc)?;
+    Ok(Outcome {
+        status,
+        written,
+        checks: seen.get(),
+        read_faults: input.faults,
+        write_faults: output.memory.faults,
+        left: input.left.len(),
+    })
 }
 
 /// The answer to a script that comes in pieces, and what was written, where the listed reads and writes fail.
@@ -51,23 +148,17 @@ pub(crate) fn answer<R: Threads>(
 ) -> Result<(Status, List<u8>), Fail>
     requires { 1 ≤ piece }
 {
-    let mut words = Vec::new(alloc);
-    words.push(String::from_str(alloc, "session")?)?;
-    let left = List::from_vec(Vec::from_slice(alloc, script)?);
-    let reads = List::from_vec(Vec::from_slice(alloc, reads)?);
-    let mut input = MemSource::new(left, piece, reads);
-    let writes = List::from_vec(Vec::from_slice(alloc, writes)?);
-    let mut output = MemSink::new(alloc, writes);
-    let status = run(threads, alloc, &words, &mut input, &mut output);
-    let MemSink {
-        taken,
-        fails: _,
-        calls: _,
-        faults: _,
-    } = output;
-    Ok((status, taken))
+    let streams = Streams {
+        read_piece: piece,
+        reads,
+        write_piece: 1_000_000,
+        writes,
+    };
+    let outcome = play(threads, alloc, script, streams)?;
+    Ok((outcome.status, outcome.written))
 }
 
+/// Scripts with their answers and outputs, read by pieces of several sizes.
 #[test]
 fn a_script_is_answered_alike_in_any_pieces(rt: HostRuntime) -> Result<(), Fail> {
     let rows: [(&[u8], Status, &[u8], &[u8]); 7] = [
@@ -111,6 +202,7 @@ fn a_script_is_answered_alike_in_any_pieces(rt: HostRuntime) -> Result<(), Fail>
     Ok(())
 }
 
+/// A file that is longer than a read.
 #[test]
 fn a_file_is_read_past_a_buffer(rt: HostRuntime) -> Result<(), Fail> {
     let alloc = rt.alloc();
@@ -125,6 +217,7 @@ fn a_file_is_read_past_a_buffer(rt: HostRuntime) -> Result<(), Fail> {
     Ok(())
 }
 
+/// A fault of either stream is the answer.
 #[test]
 fn faults_are_answered(rt: HostRuntime) -> Result<(), Fail> {
     let (status, written) = answer(&rt, rt.alloc(), b"foo\n", 1000, &[0], &[])?;
@@ -139,6 +232,7 @@ fn faults_are_answered(rt: HostRuntime) -> Result<(), Fail> {
     Ok(())
 }
 
+/// A faulty command line prints the usage line, and reads nothing.
 #[test]
 fn other_words_are_answered_by_the_usage_line(rt: HostRuntime) -> Result<(), Fail> {
     let alloc = rt.alloc();
@@ -146,8 +240,9 @@ fn other_words_are_answered_by_the_usage_line(rt: HostRuntime) -> Result<(), Fai
     let left = List::from_vec(Vec::from_slice(alloc, b"quit\n")?);
     let mut input = MemSource::new(left, 1000, List::new(alloc));
     let mut output = MemSink::new(alloc, List::new(alloc));
+    let seen = Cell::new(0);
     assert_eq!(rt;
-        run(&rt, alloc, &words, &mut input, &mut output),
+        run(&rt, alloc, &words, &mut input, &mut output, &seen),
         Status::Usage
     );
     let line =
