@@ -47,6 +47,10 @@ A.hs:module A where~data T = M;B.hs:module B where~import A~data T = M|A: checke
 A.hs:module A where~data T = C~data T = D~data T = E|A: checked: no interface~A.hs:3:6: error E23: T is defined twice~A.hs:4:6: error E23: T is defined twice~build: 0 ok, 1 checked, 1 failed, 0 blocked~
 A.hs:module A where~data Long = C~data U = C|A: checked: no interface~A.hs:3:10: error E23: C is defined twice~build: 0 ok, 1 checked, 1 failed, 0 blocked~
 A.hs:module A where~data T = U T U~data U = T|A: checked: no interface~build: 1 ok, 1 checked, 0 failed, 0 blocked~
+";
+
+// The same over several modules, beside what fails or isn't there.
+const SCOPES_BEHIND_FAULTS: &str = "
 A.hs:module A where~data T = C;B.hs:module B where~import A;C.hs:module C where~import B~data U = D T|A: checked: no interface~B: checked: no interface~C: checked: no interface~C.hs:3:12: error E21: T is not in scope~build: 2 ok, 3 checked, 1 failed, 0 blocked~
 A.hs:module A where~data T = C;B.hs:module B where~import A~data U = D C|A: checked: no interface~B: checked: no interface~B.hs:3:12: error E21: C is not in scope~build: 1 ok, 2 checked, 1 failed, 0 blocked~
 A.hs:module A where~data T = C;B.hs:module B where~import A~data T = D T~data T = D X|A: checked: no interface~B: checked: no interface~B.hs:3:12: error E22: T is ambiguous~B.hs:4:6: error E23: T is defined twice~B.hs:4:10: error E23: D is defined twice~B.hs:4:12: error E21: X is not in scope~build: 1 ok, 2 checked, 1 failed, 0 blocked~
@@ -84,8 +88,8 @@ A.hs:  {-# LANGUAGE X #-}~module A where|A: failed~A.hs:1:16: error E05: unknown
 B.hs:module B where~data T = C^import A|B: checked: no interface~B.hs:2:12: error E00: this form is not built yet~build: 0 ok, 1 checked, 1 failed, 0 blocked~
 ";
 
-// Headers and graphs: cycles, loops through boot files, names and pragmas of headers, and what has E00 in a header.
-const HEADERS: &str = "
+// Graphs: cycles, loops through boot files, and a Prelude of the tree.
+const GRAPHS: &str = "
 A.hs:module A where~import B;B.hs:module B where~import A;C.hs:module C where~import A|A: failed~A.hs:2:8: error E11: import cycle through B~B: failed~B.hs:2:8: error E11: import cycle through A~C: blocked by A~build: 0 ok, 0 checked, 2 failed, 1 blocked~
 A.hs:module A where~import B~import C;B.hs:module B where;C.hs:module C where~import A|B: checked: no interface~A: failed~A.hs:3:8: error E11: import cycle through C~C: failed~C.hs:2:8: error E11: import cycle through A~build: 1 ok, 1 checked, 2 failed, 0 blocked~
 B.hs:module B where~import C;C.hs:module C where~data T = K;A.hs:module A where~import B~import C~data U = D T|C: checked: no interface~B: checked: no interface~A: checked: no interface~build: 3 ok, 3 checked, 0 failed, 0 blocked~
@@ -98,6 +102,10 @@ A.hs:{-# LANGUAGE ImplicitPrelude #-}~module A where|A: failed~A.hs:1:1: error E
 Prelude.hs:module Prelude where~data T = C;A.hs:{-# LANGUAGE ImplicitPrelude #-}~module A where~data U = D T|Prelude: checked: no interface~A: checked: no interface~build: 2 ok, 2 checked, 0 failed, 0 blocked~
 Prelude.hs:{-# LANGUAGE ImplicitPrelude #-} module Prelude where|Prelude: failed~Prelude.hs:1:1: error E11: import cycle through Prelude~build: 0 ok, 0 checked, 1 failed, 0 blocked~
 Prelude.hs:module Prelude where~data T = C;A.hs:{-# LANGUAGE ImplicitPrelude #-}~module A where~import Prelude ()~data U = D T|Prelude: checked: no interface~A: checked: no interface~A.hs:3:1: error E00: this form is not built yet~build: 1 ok, 2 checked, 1 failed, 0 blocked~
+";
+
+// Pragmas, names of headers, headers that are cut short, and what has E00 in a header.
+const HEADERS: &str = "
 A.hs:{-# LANGUAGE Haskell2010, NoMonomorphismRestriction #-}~module A where~data T = C|A: checked: no interface~build: 1 ok, 1 checked, 0 failed, 0 blocked~
 A.hs:{-# LANGUAGE GADTs #-}~module A where~import B|A: failed~A.hs:1:14: error E05: unknown extension GADTs~build: 0 ok, 0 checked, 1 failed, 0 blocked~
 A.hs:module A wher|A: failed~A.hs:1:10: error E03: this is no module header~build: 0 ok, 0 checked, 1 failed, 0 blocked~
@@ -212,6 +220,20 @@ fn is_answered<R: Threads>(threads: &R, alloc: Global, row: &[u8]) -> Result<boo
     Ok(true)
 }
 
+/// The first row of a table of trees whose session doesn't print its report or answers otherwise.
+fn first_wrong<'a, R: Threads>(
+    threads: &R,
+    alloc: Global,
+    rows: &'a [u8],
+) -> Result<Option<&'a [u8]>, Fail> {
+    for row in rows.split(|byte| *byte == b'\n') {
+        if !row.is_empty() && !is_answered(threads, alloc, row)? {
+            return Ok(Some(row));
+        }
+    }
+    Ok(None)
+}
+
 /// Whether the row's session, in pieces of any size, ends and prints as it says.
 fn is_played<R: Threads>(threads: &R, alloc: Global, row: &[u8]) -> Result<bool, Fail> {
     let (end, row) = cut_at(row, b'|');
@@ -249,59 +271,55 @@ fn commands_are_carried_out(rt: HostRuntime) -> Result<(), Fail> {
 /// Trees of the first form, and imports that are there or not.
 #[test]
 fn forms_and_imports_are_reported(rt: HostRuntime) -> Result<(), Fail> {
-    for row in FORMS_AND_IMPORTS.as_bytes().split(|byte| *byte == b'\n') {
-        if !row.is_empty() {
-            let alike = is_answered(&rt, rt.alloc(), row)?;
-            assert!(rt; alike, "{row:?}");
-        }
-    }
+    let wrong = first_wrong(&rt, rt.alloc(), FORMS_AND_IMPORTS.as_bytes())?;
+    assert!(rt; wrong.is_none(), "{wrong:?}");
     Ok(())
 }
 
 /// Names that are in scope, ambiguous, or defined twice.
 #[test]
 fn scopes_are_reported(rt: HostRuntime) -> Result<(), Fail> {
-    for row in SCOPES.as_bytes().split(|byte| *byte == b'\n') {
-        if !row.is_empty() {
-            let alike = is_answered(&rt, rt.alloc(), row)?;
-            assert!(rt; alike, "{row:?}");
-        }
-    }
+    let wrong = first_wrong(&rt, rt.alloc(), SCOPES.as_bytes())?;
+    assert!(rt; wrong.is_none(), "{wrong:?}");
+    Ok(())
+}
+
+/// Names in modules that others import, beside modules that fail.
+#[test]
+fn scopes_behind_faults_are_reported(rt: HostRuntime) -> Result<(), Fail> {
+    let wrong = first_wrong(&rt, rt.alloc(), SCOPES_BEHIND_FAULTS.as_bytes())?;
+    assert!(rt; wrong.is_none(), "{wrong:?}");
     Ok(())
 }
 
 /// Sources with comments, braces and layout.
 #[test]
 fn sources_are_laid_out(rt: HostRuntime) -> Result<(), Fail> {
-    for row in LAID_OUT.as_bytes().split(|byte| *byte == b'\n') {
-        if !row.is_empty() {
-            let alike = is_answered(&rt, rt.alloc(), row)?;
-            assert!(rt; alike, "{row:?}");
-        }
-    }
+    let wrong = first_wrong(&rt, rt.alloc(), LAID_OUT.as_bytes())?;
+    assert!(rt; wrong.is_none(), "{wrong:?}");
     Ok(())
 }
 
-/// Headers, pragmas, cycles and boot files.
+/// Cycles, boot files, and a Prelude of the tree.
 #[test]
-fn headers_and_graphs_are_reported(rt: HostRuntime) -> Result<(), Fail> {
-    for row in HEADERS.as_bytes().split(|byte| *byte == b'\n') {
-        if !row.is_empty() {
-            let alike = is_answered(&rt, rt.alloc(), row)?;
-            assert!(rt; alike, "{row:?}");
-        }
-    }
+fn graphs_are_reported(rt: HostRuntime) -> Result<(), Fail> {
+    let wrong = first_wrong(&rt, rt.alloc(), GRAPHS.as_bytes())?;
+    assert!(rt; wrong.is_none(), "{wrong:?}");
+    Ok(())
+}
+
+/// Pragmas, headers that are cut short, and forms of imports.
+#[test]
+fn headers_are_reported(rt: HostRuntime) -> Result<(), Fail> {
+    let wrong = first_wrong(&rt, rt.alloc(), HEADERS.as_bytes())?;
+    assert!(rt; wrong.is_none(), "{wrong:?}");
     Ok(())
 }
 
 /// Sources with a place at which no lexeme begins.
 #[test]
 fn bad_lexemes_are_reported(rt: HostRuntime) -> Result<(), Fail> {
-    for row in BAD_LEXEMES.as_bytes().split(|byte| *byte == b'\n') {
-        if !row.is_empty() {
-            let alike = is_answered(&rt, rt.alloc(), row)?;
-            assert!(rt; alike, "{row:?}");
-        }
-    }
+    let wrong = first_wrong(&rt, rt.alloc(), BAD_LEXEMES.as_bytes())?;
+    assert!(rt; wrong.is_none(), "{wrong:?}");
     Ok(())
 }
