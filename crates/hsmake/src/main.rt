@@ -4,8 +4,6 @@
 ghost use Rattle.std.specs.Prelude.{◌≡◌, ◌<◌};
 ghost use Rattle.hsmake.specs.Exit.{status_number};
 
-mod streams;
-
 use hsmake_top::run::run_alone;
 use mk_base::status::Status;
 use mk_base::steps::{Steps, Tokens};
@@ -15,7 +13,7 @@ use std::marker::Brand;
 use std::process::ExitCode;
 use std::sync::ledger::{Blank, Ledger};
 use std::thread::Threads;
-use streams::{Input, Output};
+use std_streams::streams::{Input, Output};
 
 /// The exit status of the program: the number of the variant.
 fn exit_status(status: Status) -> u8

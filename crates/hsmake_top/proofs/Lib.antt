@@ -4,5 +4,6 @@ pub mod Results
 pub mod Windows
 pub mod Folds
 pub mod Turns
+pub mod Stops
 pub mod Ends
 pub mod Words

@@ -12,6 +12,7 @@ use Rattle.session_lang.specs.Spelling.{Said, Quit, spelling}
 use Rattle.session_lang.specs.Script.{limit, IsPlain, IsBadScript, spellings}
 use Rattle.session_lang.proofs.Scripts.{all_push, begins_so, length_more, not_bad, one_more, place as places_are_one}
 use Rattle.hsmake_top.specs.Session.{State, opening, after, state_after, replies, reply_of, any_fails, fails, checks, bad_line, HasText, HasWritten, Ended, EndedBad}
+use Rattle.hsmake_top.specs.Stopped.{HaveConsumed, StoppedWriting}
 use Rattle.hsmake_top.specs.Turn.{SoFar}
 use Rattle.hsmake_top.specs.Ahead.{IsBadAhead, window}
 use Rattle.hsmake_top.proofs.Folds.{state_more, replies_more, replies_on, fails_more, checks_more}
@@ -27,11 +28,12 @@ nothing_begun None k = tt
 nothing_begun (Some bytes) k = record { commands = []; plain = tt; rest = take limit bytes; begins = refl; text = []; text_is = inl refl; written = (0, nothing_written k) }
 
 -- before the first command
-pub nothing_done : (left taken : Option (List ℕ)) (pending : List ℕ) (before : ℕ) (state : State) (checks : ℕ) → pending ≡ [] → before ≡ 0 → state ≡ opening → SoFar left left taken taken pending before state false checks checks
-nothing_done left taken pending before state checks p b s = record {
+pub nothing_done : (left taken : Option (List ℕ)) (pending : List ℕ) (before : ℕ) (state : State) (checks : ℕ) → HaveConsumed left left → pending ≡ [] → before ≡ 0 → state ≡ opening → SoFar left left taken taken pending before state false checks checks
+nothing_done left taken pending before state checks o p b s = record {
   commands = [];
   plain = tt;
   read = subst (Consumes left left) (sym p) (nothing_read left);
+  consumed = o;
   written = nothing_written taken;
   before_is = b;
   state_is = s;
@@ -66,11 +68,12 @@ module _ (l0 l1 k0 k1 : Option (List ℕ)) (pending : List ℕ) (before : ℕ) (
       (consumed l0 l1 (spellings s.commands ++ pending) s.read)
 
   -- after a read
-  pub reads : (l2 : Option (List ℕ)) (more piece : List ℕ) → Consumes l1 l2 piece → more ≡ pending ++ piece → SoFar l0 l2 k0 k1 more before state failed n0 n1
-  reads l2 more piece r e = record {
+  pub reads : (l2 : Option (List ℕ)) (more bytes : List ℕ) → Consumes l1 l2 bytes → more ≡ pending ++ bytes → HaveConsumed l0 l2 → SoFar l0 l2 k0 k1 more before state failed n0 n1
+  reads l2 more bytes r e o = record {
     commands = s.commands;
     plain = s.plain;
-    read = subst (Consumes l0 l2) (append_assoc (spellings s.commands) pending piece ∙ ap (λ p. spellings s.commands ++ p) (sym e)) (read_on l0 l1 l2 (spellings s.commands ++ pending) piece s.read r);
+    read = subst (Consumes l0 l2) (append_assoc (spellings s.commands) pending bytes ∙ ap (λ p. spellings s.commands ++ p) (sym e)) (read_on l0 l1 l2 (spellings s.commands ++ pending) bytes s.read r);
+    consumed = o;
     written = s.written;
     before_is = s.before_is;
     state_is = s.state_is;
@@ -85,6 +88,7 @@ module _ (l0 l1 k0 k1 : Option (List ℕ)) (pending : List ℕ) (before : ℕ) (
     commands = s.commands ++ c ∷ [];
     plain = all_push s.commands c s.plain p;
     read = subst (Consumes l0 l1) (one_more (spellings s.commands ++ pending) s.commands c pending rest refl f ∙ ap (λ x. spellings (s.commands ++ c ∷ []) ++ x) (sym d)) s.read;
+    consumed = s.consumed;
     written =
         let told : replies opening s.commands ++ text ≡ replies opening (s.commands ++ c ∷ []) =
         ap (λ x. replies opening s.commands ++ x) (t ∙ ap (λ z. reply_of z c) s.state_is) ∙ sym (replies_more opening s.commands c) in
@@ -233,4 +237,19 @@ module _ (l0 l1 k0 k1 : Option (List ℕ)) (pending : List ℕ) (before : ℕ) (
           text_is = inr (at, b, refl);
           written = front_of k0 k2 (replies opening s.commands ++ bad_line at) (replies opening s.commands ++ part) (drop w.0 (bad_line at)) is (joined k0 k1 k2 (replies opening s.commands) part s.written w.1);
         })
+        is_bad
+
+    -- a write failed in the last line
+    pub stopped_in_bad_line : (k2 : Option (List ℕ)) → AppendsFront k1 k2 (bad_line at) → IfSome l0 (λ bytes. StoppedWriting bytes n0 n1 k0 k2)
+    stopped_in_bad_line k2 w =
+        if_some l0 (λ bytes. IsBadScript bytes s.commands at) (λ bytes. StoppedWriting bytes n0 n1 k0 k2)
+        (λ bytes b.
+        inr (record {
+          commands = s.commands;
+          at = at;
+          bad = b;
+          count = w.0;
+          written = joined k0 k1 k2 (replies opening s.commands) (take w.0 (bad_line at)) s.written w.1;
+          checks_are = s.checks_are;
+        }))
         is_bad

@@ -10,6 +10,7 @@ use Rattle.session_lang.specs.declared.command.Command.{Command}
 use Rattle.session_lang.specs.declared.command.Command.TheVariants as code
 use Rattle.session_lang.specs.Meant.{AreSpansOf}
 use Rattle.session_lang.proofs.Scripts.{bad_begins_none, bad_goes_on_not, part_begins_none, part_goes_on}
+use Rattle.hsmake_top.specs.Stopped.{IsPart}
 use Rattle.hsmake_top.specs.Ahead.{IsBadAhead, window}
 
 -- the window over bytes that lie in it, and more behind them
@@ -27,7 +28,7 @@ bad_here before p r h bad =
       place = inr ((λ cut. bad_goes_on_not p (take (limit - before - length p) r) bad (subst GoesOn w cut.1)), refl);
     }
 
-module _ (before : ℕ) (p r : List ℕ) (part : (c : Said) × (more : List ℕ) × IsCommand c × (more ≢ []) × (p ++ more ≡ spelling c)) where
+module _ (before : ℕ) (p r : List ℕ) (part : IsPart p) where
   -- the input ends in a command
   pub bad_end : before + length p ≤ limit → r ≡ [] → IsBadAhead before (p ++ r) before
   bad_end h e =

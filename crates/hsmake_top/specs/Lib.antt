@@ -1,4 +1,5 @@
 pub mod Session
+pub mod Stopped
 pub mod Usage
 pub mod Kept
 pub mod Ahead

@@ -3,6 +3,7 @@ ghost use Rattle.std.specs.Prelude.{◌≡◌, ◌⊎◌, ◌↔◌, List, ℕ, 
 ghost use Rattle.std.specs.Io.KnownBytes.{Appends};
 ghost use Rattle.mk_io.specs.Outside.{AppendsFront, Rose};
 ghost use Rattle.hsmake_top.specs.Session.{Ended, EndedBad, HasText, HasWritten, IsSession};
+ghost use Rattle.hsmake_top.specs.Stopped.{HasConsumed, StoppedReading, StoppedWriting};
 ghost use Rattle.hsmake_top.specs.Turn.{HasDone, IsEnd, IsProgress, IsWhole};
 ghost use Rattle.std.specs.declared.option.Option.{Option};
 ghost use Rattle.hsmake_top.specs.Usage.{usage_line};
@@ -47,9 +48,11 @@ fn go_on<S: Source, K: Sink, L: Ledger>(
     steps: &mut Steps<L>,
 ) -> Status
     requires { IsProgress progress.old }
-    ensures ends { (left taken : Option (List ℕ)) (checks : ℕ) → HasDone left (S.left input.old) taken (K.taken output.old) checks steps.old progress.old → IsEnd left taken (K.taken output.new) checks steps.new result }
+    ensures ends { (left taken : Option (List ℕ)) (checks : ℕ) → HasDone left (S.left input.old) taken (K.taken output.old) checks steps.old progress.old → IsEnd left (S.left input.new) taken (K.taken output.new) checks steps.new result }
     ensures read { result ≡ Status.ReadFault → Rose (S.faults input.old) (S.faults input.new) }
     ensures write { result ≡ Status.WriteFault → Rose (K.faults output.old) (K.faults output.new) }
+    ensures read_alone { result ≡ Status.ReadFault → K.faults output.new ≡ K.faults output.old }
+    ensures write_alone { result ≡ Status.WriteFault → S.faults input.new ≡ S.faults input.old }
     ensures none { IsWhole result → (S.faults input.new ≡ S.faults input.old) × (K.faults output.new ≡ K.faults output.old) }
     ensures others { (result ≡ Status.Usage → ⊥) × (result ≡ Status.StoreFault → ⊥) }
 {
@@ -67,9 +70,11 @@ fn run_session<S: Source, K: Sink, L: Ledger>(
     output: &mut K,
     steps: &mut Steps<L>,
 ) -> Status
-    ensures ends { IsEnd (S.left input.old) (K.taken output.old) (K.taken output.new) steps.old steps.new result }
+    ensures ends { IsEnd (S.left input.old) (S.left input.new) (K.taken output.old) (K.taken output.new) steps.old steps.new result }
     ensures read { result ≡ Status.ReadFault → Rose (S.faults input.old) (S.faults input.new) }
     ensures write { result ≡ Status.WriteFault → Rose (K.faults output.old) (K.faults output.new) }
+    ensures read_alone { result ≡ Status.ReadFault → K.faults output.new ≡ K.faults output.old }
+    ensures write_alone { result ≡ Status.WriteFault → S.faults input.new ≡ S.faults input.old }
     ensures none { IsWhole result → (S.faults input.new ≡ S.faults input.old) × (K.faults output.new ≡ K.faults output.old) }
     ensures others { (result ≡ Status.Usage → ⊥) × (result ≡ Status.StoreFault → ⊥) }
 {
@@ -105,6 +110,18 @@ pub fn run_alone<S: Source, K: Sink, L: Ledger>(
     ensures write { result ≡ Status.WriteFault → Rose (K.faults output.old) (K.faults output.new) }
     ensures none { (result ≡ Status.Done) ⊎ ((result ≡ Status.Failed) ⊎ (result ≡ Status.BadScript)) → (S.faults input.new ≡ S.faults input.old) × (K.faults output.new ≡ K.faults output.old) }
     ensures store { result ≡ Status.StoreFault → ⊥ }
+    // At a fault of one stream the count of the other stays.
+    ensures read_alone { result ≡ Status.ReadFault → K.faults output.new ≡ K.faults output.old }
+    ensures write_alone { result ≡ Status.WriteFault → S.faults input.new ≡ S.faults input.old }
+    // ReadFault: some commands were carried out, and what was read behind them is a proper beginning of one more; the
+    // output took their replies, and their checks are counted.
+    ensures read_counted { result ≡ Status.ReadFault → IfSome (S.left input.old) (λ bytes. StoppedReading bytes (S.left input.new) steps.old steps.new (K.taken output.old) (K.taken output.new)) }
+    // WriteFault: the output took the replies to some commands and a front of the next reply, whose checks are counted
+    // too, or, where the script is bad behind these, a front of the line that names the bad place.
+    ensures write_counted { result ≡ Status.WriteFault → IfSome (S.left input.old) (λ bytes. StoppedWriting bytes steps.old steps.new (K.taken output.old) (K.taken output.new)) }
+    // Whatever the answer, what had been read before the last read was commands other than `quit` and a proper
+    // beginning of one more; so no more than one read goes past a `quit` or a bad place.
+    ensures consumed { IfSome (S.left input.old) (λ bytes. IfSome (S.left input.new) (λ rest. HasConsumed bytes rest)) }
 {
     if is_session(words) {
         run_session(alloc, input, output, steps)

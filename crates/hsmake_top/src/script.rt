@@ -1,12 +1,12 @@
 //! A script, read piece by piece and command by command.
 ghost use Rattle.std.specs.Prelude.{◌≡◌, ◌≤◌, ◌<◌, ◌+◌, ◌-◌, ◌++◌, [], ℕ, List, IfOk, OnOk, Ok, true, false, length, drop};
 ghost use Rattle.std.specs.Option.{IfSome};
-ghost use Rattle.std.specs.Io.KnownBytes.{Consumes, IsAtEnd};
-ghost use Rattle.mk_io.specs.Outside.{HasIoCause};
+ghost use Rattle.std.specs.Io.KnownBytes.{Consumes, IsAtEnd, Keeps};
+ghost use Rattle.mk_io.specs.Outside.{HasIoCause, IsFailed};
 ghost use Rattle.session_lang.specs.Script.{limit};
 ghost use Rattle.session_lang.specs.Meant.{said, AreSpansOf};
 ghost use Rattle.session_lang.specs.Spelling.{IsCommand, spelling};
-ghost use Rattle.hsmake_top.specs.Ahead.{pending, place, seen, IsLonger, IsNext, IsWithin};
+ghost use Rattle.hsmake_top.specs.Ahead.{pending, place, seen, IsLastRead, IsLonger, IsNext, IsWithin, ReadsOn, StopsInPart};
 
 use mk_io::outside::{IoErr, Source};
 use session_lang::command::{Command, Parsed, next_command};
@@ -53,6 +53,8 @@ fn drop_front(bytes: &mut Vec<u8>, count: usize)
 fn goes_on<S: Source>(input: &mut S) -> Result<bool, IoErr>
     ensures more { result ≡ Ok true → IfSome (S.left input.old) (λ bytes. 0 < length bytes) }
     ensures end { result ≡ Ok false → IsAtEnd (S.left input.old) }
+    ensures last { (last : List ℕ) × Consumes (S.left input.old) (S.left input.new) last × (length last ≤ 1) }
+    ensures stopped { IsFailed result → Keeps (S.left input.old) (S.left input.new) }
     ensures cause { HasIoCause (S.faults input.old) (S.faults input.new) result }
 {
     let mut piece = [0u8; 1];
@@ -113,10 +115,12 @@ impl Script {
     fn read_more<S: Source>(&mut self, input: &mut S) -> Result<More, IoErr>
         requires { IsWithin self.old }
         ensures within { IsWithin self.new }
-        ensures read { result ≡ Ok More.Read → (piece : List ℕ) × Consumes (S.left input.old) (S.left input.new) piece × IsLonger self.old self.new piece × (seen self.old < seen self.new) }
+        ensures read { result ≡ Ok More.Read → (bytes : List ℕ) × Consumes (S.left input.old) (S.left input.new) bytes × IsLonger self.old self.new bytes × (seen self.old < seen self.new) }
         ensures place { place self.new ≡ place self.old }
         ensures end { result ≡ Ok More.End → IsAtEnd (S.left input.old) }
         ensures cut { result ≡ Ok More.Cut → (seen self.old ≡ limit) × IfSome (S.left input.old) (λ bytes. 0 < length bytes) }
+        ensures last { IsLastRead (S.left input.old) (S.left input.new) (seen self.old) }
+        ensures stopped { IsFailed result → Keeps (S.left input.old) (S.left input.new) }
         ensures cause { HasIoCause (S.faults input.old) (S.faults input.new) result }
     {
         let room = LIMIT - self.start - self.buffer.len();
@@ -143,6 +147,8 @@ impl Script {
         requires { IsWithin self.old }
         ensures within { IsWithin self.new }
         ensures next { IfOk result (λ next. IsNext (S.left input.old) (S.left input.new) self.old self.new next) }
+        ensures reads { ReadsOn (S.left input.old) (S.left input.new) (place self.old) (pending self.old) }
+        ensures stopped { IsFailed result → StopsInPart (S.left input.old) (S.left input.new) (place self.old) (pending self.old) }
         ensures cause { HasIoCause (S.faults input.old) (S.faults input.new) result }
     {
         loop {

@@ -2,7 +2,7 @@
 ghost use Rattle.std.specs.Prelude.{◌≡◌, ◌⊎◌, ◌||◌, ◌<◌, ◌≤◌, ◌+◌, ◌^◌, List, ℕ, true, false, length, IfOk, OnOk, OnErr, IfSome, IfNone, IsTrue, Some};
 ghost use Rattle.std.specs.declared.option.Option.{Option};
 ghost use Rattle.std.specs.Io.KnownBytes.{Appends};
-ghost use Rattle.mk_io.specs.Outside.{AppendsFront, HasIoCause, Rose};
+ghost use Rattle.mk_io.specs.Outside.{AppendsFront, HasIoCause, IsFailed, Rose};
 ghost use Rattle.session_lang.specs.Meant.{said, AreSpansOf};
 ghost use Rattle.session_lang.specs.Spelling.{IsCommand, Quit};
 ghost use Rattle.hsmake_top.specs.Session.{after, bad_line, checks, fails, reply_of};
@@ -115,6 +115,7 @@ fn reply<K: Sink, L: Ledger>(
     ensures few { OnOk result (length session.new.input.files ≤ length session.old.input.files + 1) }
     ensures failed { IfOk result (λ f. f ≡ fails (state_of session.old) (said bytes.now command)) }
     ensures checks { OnOk result (steps.new ≡ steps.old + checks (state_of session.old) (said bytes.now command)) }
+    ensures counted { IsFailed result → steps.new ≡ steps.old + checks (state_of session.old) (said bytes.now command) }
     ensures whole { OnOk result (Appends (K.taken output.old) (K.taken output.new) (reply_of (state_of session.old) (said bytes.now command))) }
     ensures front { OnErr result (AppendsFront (K.taken output.old) (K.taken output.new) (reply_of (state_of session.old) (said bytes.now command))) }
     ensures cause { HasIoCause (K.faults output.old) (K.faults output.new) result }
@@ -137,9 +138,11 @@ pub fn turn<S: Source, K: Sink, L: Ledger>(
     ensures further { IfNone result (place progress.old.script < place progress.new.script) }
     ensures goes { IfNone result ((left taken : Option (List ℕ)) (checks : ℕ) → HasDone left (S.left input.old) taken (K.taken output.old) checks steps.old progress.old → HasDone left (S.left input.new) taken (K.taken output.new) checks steps.new progress.new) }
     ensures faults { IfNone result ((S.faults input.new ≡ S.faults input.old) × (K.faults output.new ≡ K.faults output.old)) }
-    ensures ends { IfSome result (λ answer. (left taken : Option (List ℕ)) (checks : ℕ) → HasDone left (S.left input.old) taken (K.taken output.old) checks steps.old progress.old → IsEnd left taken (K.taken output.new) checks steps.new answer) }
+    ensures ends { IfSome result (λ answer. (left taken : Option (List ℕ)) (checks : ℕ) → HasDone left (S.left input.old) taken (K.taken output.old) checks steps.old progress.old → IsEnd left (S.left input.new) taken (K.taken output.new) checks steps.new answer) }
     ensures read { result ≡ Some Status.ReadFault → Rose (S.faults input.old) (S.faults input.new) }
     ensures write { result ≡ Some Status.WriteFault → Rose (K.faults output.old) (K.faults output.new) }
+    ensures read_alone { result ≡ Some Status.ReadFault → K.faults output.new ≡ K.faults output.old }
+    ensures write_alone { result ≡ Some Status.WriteFault → S.faults input.new ≡ S.faults input.old }
     ensures whole { IfSome result (λ answer. IsWhole answer → (S.faults input.new ≡ S.faults input.old) × (K.faults output.new ≡ K.faults output.old)) }
     ensures others { IfSome result (λ answer. (answer ≡ Status.Usage → ⊥) × (answer ≡ Status.StoreFault → ⊥)) }
 {

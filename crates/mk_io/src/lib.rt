@@ -4,6 +4,4 @@
 pub mod file;
 pub mod memory;
 pub mod outside;
-#[cfg(test)]
-mod tests;
 pub mod write;

@@ -1,13 +1,14 @@
 use Rattle.std.proofs.Common.{◌≡◌, ◌-◌, ℕ, List}
 use Rattle.std.specs.Io.KnownBytes.{Consumes}
 use Rattle.session_lang.specs.Script.{limit}
-use Rattle.hsmake_top.specs.Ahead.{IsLonger, IsWithin, seen}
+use Rattle.hsmake_top.specs.Ahead.{IsLonger, IsWithin, pending, place, seen, ReadsOn}
 use Rattle.hsmake_top.proofs.script.Script.next.Given as goal
 
 abbrev pub invariant-loop-command : goal.invariant-loop-command
 invariant-loop-command g l = record {
   within : IsWithin l.self;
-  read : (piece : List ℕ) × Consumes (g.S.Source.left l.fn.input) (g.S.Source.left l.input) piece × IsLonger l.fn.self l.self piece;
+  read : (bytes : List ℕ) × Consumes (g.S.Source.left l.fn.input) (g.S.Source.left l.input) bytes × IsLonger l.fn.self l.self bytes;
+  reads : ReadsOn (g.S.Source.left l.fn.input) (g.S.Source.left l.input) (place l.fn.self) (pending l.fn.self);
   kept : g.S.Source.faults l.input ≡ g.S.Source.faults l.fn.input;
 }
 
