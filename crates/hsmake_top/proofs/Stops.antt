@@ -1,16 +1,15 @@
 -- What was read of an input, and what was done where a stream failed.
-use Rattle.std.proofs.Common.{◌≡◌, ◌⊎◌, inl, inr, ℕ, ◌+◌, ◌-◌, ◌≤◌, Bool, false, List, [], ◌∷◌, ◌++◌, length, take, refl, ap, sym, ◌∙◌, subst, arith, append_assoc, length-append, Some, None}
+use Rattle.std.proofs.Common.{◌≡◌, inl, inr, ℕ, ◌+◌, ◌-◌, ◌≤◌, Bool, List, [], ◌++◌, length, take, refl, ap, sym, ◌∙◌, subst, arith, append_assoc, length-append, Some, None}
 use Rattle.std.specs.declared.option.Option.{Option}
 use Rattle.std.specs.Option.{IfSome}
-use Rattle.std.specs.List.{AllByRecursion}
 use Rattle.std.proofs.lemmas.List.{append-nil}
 use Rattle.std.specs.Io.KnownBytes.{Appends, Consumes, Keeps}
 use Rattle.mk_io.specs.Outside.{AppendsFront}
 use Rattle.mk_io.proofs.Pieces.{joined, read_on}
 use Rattle.session_lang.specs.Spelling.{Said, Quit, spelling}
-use Rattle.session_lang.specs.Script.{limit, IsPlain, IsBadScript, spellings}
-use Rattle.hsmake_top.specs.Session.{State, opening, state_after, replies, reply_of, all_checks, checks, bad_line}
-use Rattle.hsmake_top.specs.Stopped.{piece, IsOpen, IsPart, HasConsumed, HaveConsumed, StoppedReading, StoppedInReply, StoppedWriting}
+use Rattle.session_lang.specs.Script.{limit, IsPlain, spellings}
+use Rattle.hsmake_top.specs.Session.{State, opening, state_after, replies, reply_of, checks}
+use Rattle.hsmake_top.specs.Stopped.{piece, IsOpen, IsPart, HasConsumed, HaveConsumed, StoppedReading, StoppedWriting}
 use Rattle.hsmake_top.specs.Ahead.{IsLastRead, ReadsOn, ReadsFurther, StopsInPart}
 use Rattle.hsmake_top.specs.Turn.{SoFar}
 use Rattle.hsmake_top.proofs.Folds.{checks_more}

@@ -1,11 +1,9 @@
 //! A script, read piece by piece and command by command.
-ghost use Rattle.std.specs.Prelude.{◌≡◌, ◌≤◌, ◌<◌, ◌+◌, ◌-◌, ◌++◌, [], ℕ, List, IfOk, OnOk, Ok, true, false, length, drop};
+ghost use Rattle.std.specs.Prelude.{◌≡◌, ◌≤◌, ◌<◌, ◌+◌, [], ℕ, List, IfOk, Ok, true, false, length, drop};
 ghost use Rattle.std.specs.Option.{IfSome};
 ghost use Rattle.std.specs.Io.KnownBytes.{Consumes, IsAtEnd, Keeps};
 ghost use Rattle.mk_io.specs.Outside.{HasIoCause, IsFailed};
 ghost use Rattle.session_lang.specs.Script.{limit};
-ghost use Rattle.session_lang.specs.Meant.{said, AreSpansOf};
-ghost use Rattle.session_lang.specs.Spelling.{IsCommand, spelling};
 ghost use Rattle.hsmake_top.specs.Ahead.{pending, place, seen, IsLastRead, IsLonger, IsNext, IsWithin, ReadsOn, StopsInPart};
 
 use mk_io::outside::{IoErr, Source};
