@@ -11,5 +11,3 @@ pub mod role;
 pub mod rules;
 pub mod stack;
 pub mod state;
-#[cfg(test)]
-mod tests;

@@ -3,8 +3,8 @@
 //! A row is a source, a bar and what is expected. In a source `~` stands for a line feed. A name stands with its
 //! qualifier before a slash and its place behind an at sign; before an equals sign stands the place of its item, where
 //! that is another one. Items begin with v, t, c or m: a value, a type, a constructor or a module.
-use crate::header_err::HeaderErr;
-use crate::read::read_header;
+use hs_header::header_err::HeaderErr;
+use hs_header::read::read_header;
 use hs_syntax::header::{ExportItem, Header, IitemTree, ImportItem, ImportList, SubTree, Subs};
 use hs_syntax::name_ref::NameRef;
 use mk_base::list::List;

@@ -1,7 +1,8 @@
 //! Numbers, characters and strings as the Report has them.
-use crate::char_literal::char_at;
-use crate::number::{Form, number_at};
-use crate::quoted::text_at;
+use hs_lex::cursor::start;
+use hs_lex::lex::{LexErr, read};
+use hs_syntax::token::TokenKind;
+use std::alloc::Global;
 
 // Sources, and how many bytes stand behind the lexeme at their front.
 const ESCAPES: [(&[u8], usize); 9] = [
@@ -142,80 +143,92 @@ const NO_CHARACTERS: [&[u8]; 19] = [
 
 const NO_NUMBERS: [&[u8]; 6] = [b"", b"x1", b".5", b"\xd9\xa1", b"e5", b"-1"];
 
+/// Whether a lexeme of the kind stands at the front, with so many bytes behind it.
+fn begins(alloc: Global, source: &[u8], kind: TokenKind, left: usize) -> bool {
+    if source.len() > 1048576 {
+        return false;
+    }
+    match read(alloc, source, start(source)) {
+        Ok(Some((token, next))) => {
+            token.kind == kind && source.len().saturating_sub(next.at) == left
+        }
+        _ => false,
+    }
+}
+
+/// Whether no lexeme of the kind stands at the front.
+fn lacks(alloc: Global, source: &[u8], kind: TokenKind) -> bool {
+    if source.len() > 1048576 {
+        return false;
+    }
+    match read(alloc, source, start(source)) {
+        Ok(Some((token, _))) => token.kind != kind,
+        Ok(None) => true,
+        Err(LexErr::NoLexeme(_)) => true,
+        Err(LexErr::NoMemory) => false,
+    }
+}
+
 #[test]
 fn reads_escapes(rt: HostRuntime) {
     for (source, left) in ESCAPES {
-        match text_at(source) {
-            Some(rest) => assert_eq!(rt; rest.len(), left),
-            None => assert!(rt; false),
-        }
+        assert!(rt; begins(rt.alloc(), source, TokenKind::Text, left), "{source:?}");
     }
 }
 
 #[test]
 fn reads_strings(rt: HostRuntime) {
     for (source, left) in STRINGS {
-        match text_at(source) {
-            Some(rest) => assert_eq!(rt; rest.len(), left),
-            None => assert!(rt; false),
-        }
+        assert!(rt; begins(rt.alloc(), source, TokenKind::Text, left), "{source:?}");
     }
 }
 
 #[test]
 fn reads_characters(rt: HostRuntime) {
     for (source, left) in CHARACTERS {
-        match char_at(source) {
-            Some(rest) => assert_eq!(rt; rest.len(), left),
-            None => assert!(rt; false),
-        }
+        assert!(rt; begins(rt.alloc(), source, TokenKind::Char, left), "{source:?}");
     }
 }
 
 #[test]
 fn refuses_strings(rt: HostRuntime) {
     for source in NO_STRINGS {
-        assert!(rt; text_at(source).is_none());
+        assert!(rt; lacks(rt.alloc(), source, TokenKind::Text), "{source:?}");
     }
 }
 
 #[test]
 fn refuses_escapes(rt: HostRuntime) {
     for source in NO_ESCAPES {
-        assert!(rt; text_at(source).is_none());
+        assert!(rt; lacks(rt.alloc(), source, TokenKind::Text), "{source:?}");
     }
 }
 
 #[test]
 fn refuses_characters(rt: HostRuntime) {
     for source in NO_CHARACTERS {
-        assert!(rt; char_at(source).is_none());
+        assert!(rt; lacks(rt.alloc(), source, TokenKind::Char), "{source:?}");
     }
 }
 
 #[test]
 fn refuses_numbers(rt: HostRuntime) {
     for source in NO_NUMBERS {
-        assert!(rt; number_at(source).is_none());
+        assert!(rt; lacks(rt.alloc(), source, TokenKind::Number), "{source:?}");
+        assert!(rt; lacks(rt.alloc(), source, TokenKind::Fraction), "{source:?}");
     }
 }
 
 #[test]
 fn reads_integers(rt: HostRuntime) {
     for (source, left) in INTEGERS {
-        match number_at(source) {
-            Some((Form::Integer, rest)) => assert_eq!(rt; rest.len(), left),
-            _ => assert!(rt; false),
-        }
+        assert!(rt; begins(rt.alloc(), source, TokenKind::Number, left), "{source:?}");
     }
 }
 
 #[test]
 fn reads_floats(rt: HostRuntime) {
     for (source, left) in FLOATS {
-        match number_at(source) {
-            Some((Form::Float, rest)) => assert_eq!(rt; rest.len(), left),
-            _ => assert!(rt; false),
-        }
+        assert!(rt; begins(rt.alloc(), source, TokenKind::Fraction, left), "{source:?}");
     }
 }

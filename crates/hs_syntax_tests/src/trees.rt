@@ -1,6 +1,6 @@
 //! That copies are made with ample memory, and that a value is told from one with a change.
-use crate::header::{ExportItem, Header, IitemTree, ImportItem, ImportList, SubTree, Subs};
-use crate::name_ref::{NameRef, Target};
+use hs_syntax::header::{ExportItem, Header, IitemTree, ImportItem, ImportList, SubTree, Subs};
+use hs_syntax::name_ref::{NameRef, Target};
 use mk_base::list::List;
 use mk_base::name::{ModName, Name, Occ, Space, Unit};
 use mk_base::place::Pos;

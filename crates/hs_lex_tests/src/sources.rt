@@ -2,8 +2,8 @@
 ghost use Rattle.std.specs.Prelude.{◌≤◌, length, IfSome};
 ghost use Rattle.hs_lex.specs.Tokens.{IsReached};
 
-use crate::cursor::{Cursor, start};
-use crate::lex::{LexErr, lex, next_token, read};
+use hs_lex::cursor::{Cursor, start};
+use hs_lex::lex::{LexErr, lex, next_token, read};
 use hs_syntax::token::TokenKind::*;
 use hs_syntax::token::{Token, TokenKind};
 use std::alloc::Global;

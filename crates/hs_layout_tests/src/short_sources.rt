@@ -2,7 +2,7 @@
 //!
 //! In an expected text a brace or a semicolon alone is one that is put; one that stands in the source has an
 //! apostrophe behind it.
-use crate::braced::braced;
+use hs_layout::braced::braced;
 use hs_syntax::token::{PutSign, Token, TokenKind};
 use mk_base::list::List;
 use mk_base::memory::NoMemory;

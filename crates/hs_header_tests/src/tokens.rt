@@ -6,9 +6,9 @@
 //! with its column, the exports and each import. Behind `@` stands a tree's column, behind `:` that of its name, where
 //! it is another one. Where nothing is read it is `!` and the column of the token that leaves the grammar, or `!` alone
 //! where the input ends too early.
-use crate::law::header_is_its_spelling;
-use crate::state::Turn;
-use crate::step::{ended, start, step};
+use hs_header::law::header_is_its_spelling;
+use hs_header::state::Turn;
+use hs_header::step::{ended, start, step};
 use hs_syntax::header::{ExportItem, Header, IitemTree, ImportItem, SubTree, Subs};
 use hs_syntax::name_ref::NameRef;
 use hs_syntax::token::{PutSign, Token, TokenKind};
