@@ -32,7 +32,7 @@ use Rattle.hs_header.proofs.SubsFound.{formed, formed_is}
 use Rattle.hs_header.proofs.Complete.{one}
 
 abbrev lexeme : TokenKind → List ℕ → Token
-lexeme k text = record { kind = k; text = text; start = 0; end = 0; at = first_place; put = false; sign = None }
+lexeme k text = record { kind = k; text = text; start = 0; end = 0; at = first_place; put = None }
 
 the_close : Leaf CloseParen
 unfolding terminal_of

@@ -52,4 +52,4 @@ terminal None k text = written k text
 
 -- what a token is to the grammar
 unfoldable pub terminal_of : Token → Terminal
-terminal_of t = terminal t.sign t.kind t.text
+terminal_of t = terminal t.put t.kind t.text

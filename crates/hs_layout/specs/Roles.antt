@@ -38,7 +38,8 @@ operator_role x =
     else (if same_text x (codes "->") then role.Arrow
     else (if same_text x (codes "\\") then role.Lambda
     else (if same_text x (codes "::") then role.Typed
-    else role.Other))))
+    else (if same_text x (codes ":") then role.Operator
+    else role.Other)))))
 
 abbrev pub special_role : List ℕ → Role
 special_role x =

@@ -30,7 +30,7 @@ fn kind_of(word: &[u8]) -> TokenKind {
             TokenKind::Word
         }
         b"module" | b"infix" | b"infixl" | b"infixr" | b"class" => TokenKind::Word,
-        b"|" | b"=" | b"->" | b"<-" | b"::" | b"\\" => TokenKind::WordOp,
+        b"|" | b"=" | b"->" | b"<-" | b"::" | b":" | b"\\" => TokenKind::WordOp,
         b"(" | b")" | b"[" | b"]" | b"{" | b"}" | b"," | b";" => TokenKind::Special,
         _ => kind_of_other(word),
     }
@@ -60,8 +60,7 @@ fn end_word(alloc: Global, scan: &mut Scan) -> Result<(), NoMemory> {
         start: scan.start,
         end: scan.byte,
         at: scan.begin,
-        put: false,
-        sign: None,
+        put: None,
     })
 }
 
@@ -116,7 +115,7 @@ fn show(token: &Token, out: &mut Vec<u8>) -> Result<(), NoMemory> {
     if !out.is_empty() {
         out.push(b' ')?;
     }
-    match token.sign {
+    match token.put {
         Some(PutSign::Open) => out.push(b'{')?,
         Some(PutSign::Semicolon) => out.push(b';')?,
         Some(PutSign::Close) => out.push(b'}')?,
@@ -376,6 +375,38 @@ fn commas(rt: HostRuntime) -> Result<(), Fail> {
     Ok(())
 }
 
+/// Operators in parentheses, which are names, and semicolons in parentheses, behind which alone lexemes count.
+#[test]
+fn operators_in_parentheses(rt: HostRuntime) -> Result<(), Fail> {
+    const ROWS: [(&str, &str); 8] = [
+        (
+            "f = ( let ( : ) , b :: c in d )",
+            "{ f = ( let { ( : ) , b :: c } in d ) }",
+        ),
+        (
+            "f = ( let a , ( :+ ) , b :: c in d )",
+            "{ f = ( let { a , ( :+ ) , b :: c } in d ) }",
+        ),
+        ("f = ( let ( : + ) , b )", "{ f = ( let { ( : + ) } , b ) }"),
+        ("f = ( let ( :: ) , b )", "{ f = ( let { ( :: ) } , b ) }"),
+        ("f = ( let : , b )", "{ f = ( let { : } , b ) }"),
+        (
+            "f = ( let A ; ( : ) , b :: c in d )",
+            "{ f = ( let { A ;' ( : ) , b :: c } in d ) }",
+        ),
+        (
+            "f = ( let ( a ; + ) , b :: c in d )",
+            "{ f = ( let { ( a ;' + ) , b :: c } in d ) }",
+        ),
+        (
+            "f = ( let A ( ; : ) , b )",
+            "{ f = ( let { A ( ;' : ) , b } ) }",
+        ),
+    ];
+    run(&rt, rt.alloc(), &ROWS)?;
+    Ok(())
+}
+
 /// Where, behind blocks of do and behind semicolons.
 #[test]
 fn bindings_behind(rt: HostRuntime) -> Result<(), Fail> {
@@ -572,12 +603,9 @@ fn pragmas_and_texts(rt: HostRuntime) -> Result<(), Fail> {
     Ok(())
 }
 
-/// Where the signs stand that are put.
+/// Where the signs stand that are put; at the end of the input at the last token, which may be a pragma.
 #[test]
 fn places(rt: HostRuntime) -> Result<(), Fail> {
-    let alloc = rt.alloc();
-    let tokens = tokens_of(alloc, "do\n  ab")?;
-    let pieces = braced(alloc, &tokens)?;
     const ROWS: [(bool, u32, u32, u32, u32); 6] = [
         (true, 0, 0, 1, 1),
         (false, 0, 2, 1, 1),
@@ -586,14 +614,41 @@ fn places(rt: HostRuntime) -> Result<(), Fail> {
         (true, 7, 7, 2, 3),
         (true, 7, 7, 2, 3),
     ];
-    assert_eq!(rt; pieces.len(), 6);
-    for (i, (put, start, end, line, col)) in ROWS.iter().enumerate() {
-        let token = pieces.get(i).ok_or("short")?;
+    stand_at(&rt, rt.alloc(), "do\n  ab", &ROWS)?;
+    const NOTHING: [(bool, u32, u32, u32, u32); 2] = [(true, 0, 0, 1, 1), (true, 0, 0, 1, 1)];
+    stand_at(&rt, rt.alloc(), "", &NOTHING)?;
+    const PRAGMA: [(bool, u32, u32, u32, u32); 3] = [
+        (false, 0, 7, 1, 1),
+        (true, 7, 7, 1, 1),
+        (true, 7, 7, 1, 1),
+    ];
+    stand_at(&rt, rt.alloc(), "{-#P#-}", &PRAGMA)?;
+    const BEHIND: [(bool, u32, u32, u32, u32); 4] = [
+        (true, 0, 0, 1, 1),
+        (false, 0, 1, 1, 1),
+        (false, 2, 9, 2, 1),
+        (true, 9, 9, 2, 1),
+    ];
+    stand_at(&rt, rt.alloc(), "a\n{-#P#-}", &BEHIND)?;
+    Ok(())
+}
+
+/// That the tokens stand where the rows say: whether each is put, its bytes, its line and its column.
+fn stand_at(
+    rt: &impl Abort,
+    alloc: Global,
+    source: &str,
+    rows: &[(bool, u32, u32, u32, u32)],
+) -> Result<(), NoMemory> {
+    let tokens = tokens_of(alloc, source)?;
+    let pieces = braced(alloc, &tokens)?;
+    assert_eq!(rt; pieces.len(), rows.len());
+    for (token, (put, start, end, line, col)) in pieces.as_slice().iter().zip(rows) {
         assert!(rt;
-            token.put == *put && token.start == *start && token.end == *end,
-            "{i}"
+            token.put.is_some() == *put && token.start == *start && token.end == *end,
+            "{source}"
         );
-        assert!(rt; token.at.line == *line && token.at.col == *col, "{i}");
+        assert!(rt; token.at.line == *line && token.at.col == *col, "{source}");
     }
     Ok(())
 }

@@ -161,8 +161,7 @@ pub fn token_at(
         start: from.at as u32,
         end: to.at as u32,
         at: position(from.place),
-        put: false,
-        sign: None,
+        put: None,
     })
 }
 

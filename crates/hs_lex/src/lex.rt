@@ -162,6 +162,6 @@ pub fn every_source_is_read()
 
 /// A name behind a blank, and a string that isn't closed, as the slow function reads them.
 pub fn short_sources_are_read()
-    ensures name { read_source (codes " x") ≡ Ok (record { kind = TokenKind.VarId; text = codes "x"; start = 1; end = 2; at = record { line = 1; col = 2 }; put = false; sign = None } ∷ []) }
+    ensures name { read_source (codes " x") ≡ Ok (record { kind = TokenKind.VarId; text = codes "x"; start = 1; end = 2; at = record { line = 1; col = 2 }; put = None } ∷ []) }
     ensures string { read_source (codes "a \"b") ≡ Err (record { line = 1; col = 3 }) }
 {}

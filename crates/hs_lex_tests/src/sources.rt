@@ -16,7 +16,7 @@ fn is_row(token: &Token, row: Row) -> bool {
         && token.text.as_slice() == row.1
         && token.at.line == row.2
         && token.at.col == row.3
-        && !token.put
+        && token.put.is_none()
 }
 
 fn are_rows(tokens: &[Token], rows: &[Row]) -> bool {

@@ -51,10 +51,8 @@ pub struct Token {
     pub end: u32,
     /// The line and the column of its first character.
     pub at: Pos,
-    /// Whether layout put it.
-    pub put: bool,
-    /// Which sign layout put; Some exactly where `put` is true.
-    pub sign: Option<PutSign>,
+    /// The sign that it is, where layout put it; None for a lexeme.
+    pub put: Option<PutSign>,
 }
 
 impl Plain for TokenKind {
@@ -84,8 +82,7 @@ impl Plain for Token {
             && self.start == other.start
             && self.end == other.end
             && self.at == other.at
-            && self.put == other.put
-            && self.sign.same(&other.sign)
+            && self.put.same(&other.put)
     }
 
     fn copy(&self, alloc: Global) -> Result<Token, NoMemory> {
@@ -97,7 +94,6 @@ impl Plain for Token {
             end: self.end,
             at: self.at,
             put: self.put,
-            sign: self.sign,
         })
     }
 }

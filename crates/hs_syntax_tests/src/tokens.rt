@@ -18,8 +18,7 @@ fn tokens_are_copied_and_told_apart(rt: HostRuntime) {
         start: 12,
         end: 17,
         at,
-        put: false,
-        sign: None,
+        put: None,
     };
     let sign = Token {
         kind: TokenKind::Special,
@@ -27,8 +26,7 @@ fn tokens_are_copied_and_told_apart(rt: HostRuntime) {
         start: 17,
         end: 17,
         at,
-        put: true,
-        sign: Some(PutSign::Open),
+        put: Some(PutSign::Open),
     };
     assert!(rt; !word.same(&sign));
     match (word.copy(alloc), sign.copy(alloc)) {
