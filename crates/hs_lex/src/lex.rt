@@ -10,6 +10,7 @@ ghost use Rattle.hs_lex.specs.declared.cursor.Stage.{Stage};
 ghost use Rattle.hs_lex.specs.Items.{Is, IsItem, NoItem, Leads};
 ghost use Rattle.hs_lex.specs.Tokens.{Lexes, IsFirstBad, IsReached, IsNext, IsBlank, IsBadFrom, IsPlace, IsRead, IsStuck, IsToken, Tokens, ahead};
 ghost use Rattle.hs_lex.specs.Tokens as tokens;
+ghost use Rattle.hs_lex.specs.Answers.{IsAnswered, AnswersExclude};
 ghost use Rattle.hs_lex.specs.Deciding.{is, is_token};
 ghost use Rattle.hs_lex.specs.Slow.{item_at, lexemes_of, read_source};
 
@@ -109,6 +110,12 @@ pub fn next_token(alloc: Global, source: &[u8], at: usize) -> Result<Option<Toke
         Err(LexErr::NoMemory) => Err(LexErr::NoMemory),
     }
 }
+
+/// Of what `next_token` may answer behind a cursor one holds, and no two hold together.
+pub fn next_token_answers_once()
+    ensures one { (source : List ℕ) (c : Cursor) → IsAnswered source c }
+    ensures apart { (source : List ℕ) (c : Cursor) → AnswersExclude source c }
+{}
 
 /// A source has one list of lexemes.
 pub fn lexemes_are_unique()
