@@ -139,8 +139,7 @@ pub fn is_branch(role: Role) -> bool
     ensures { result ≡ is_branch role }
 {
     match role {
-        Role::Then => true,
-        Role::Else => true,
+        Role::Then | Role::Else => true,
         _ => false,
     }
 }

@@ -165,7 +165,7 @@ pub fn token_at(
     })
 }
 
-/// Puts the token of a turn at the end, where it has one. After an error the tokens are as before.
+/// Puts the token of a turn at the end, where it has one.
 pub fn push_turn(
     alloc: Global,
     source: &[u8],
