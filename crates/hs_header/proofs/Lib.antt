@@ -12,3 +12,4 @@ pub mod Spelled
 pub mod Ahead
 pub mod FirstBad
 pub mod Named
+pub mod Parted

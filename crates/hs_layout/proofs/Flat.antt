@@ -159,6 +159,7 @@ unfolding IsGood
 lexeme_good st t r h = (opener_is r, opened_flat r (see_top r (before st t r).frames) (see_flat r (before st t r).frames (before_flat st t r h.0 h.1)))
 
 after_good : (st : State) (t : Token) → IsGood st → IsGood (after st t)
+unfolding IsGood
 after_good st t h = part (is_pragma t.kind) (behind_pragma st t) (state_behind st t (role_of t)) h (lexeme_good st t (role_of t) h)
 
 all_good : (st : State) (ts : List Token) → IsGood st → IsGood (behind_all st ts)
