@@ -172,21 +172,30 @@ fn lacks(alloc: Global, source: &[u8], kind: TokenKind) -> bool {
 #[test]
 fn reads_escapes(rt: HostRuntime) {
     for (source, left) in ESCAPES {
-        assert!(rt; begins(rt.alloc(), source, TokenKind::Text, left), "{source:?}");
+        assert!(rt;
+            begins(rt.alloc(), source, TokenKind::Text, left),
+            "{source:?}"
+        );
     }
 }
 
 #[test]
 fn reads_strings(rt: HostRuntime) {
     for (source, left) in STRINGS {
-        assert!(rt; begins(rt.alloc(), source, TokenKind::Text, left), "{source:?}");
+        assert!(rt;
+            begins(rt.alloc(), source, TokenKind::Text, left),
+            "{source:?}"
+        );
     }
 }
 
 #[test]
 fn reads_characters(rt: HostRuntime) {
     for (source, left) in CHARACTERS {
-        assert!(rt; begins(rt.alloc(), source, TokenKind::Char, left), "{source:?}");
+        assert!(rt;
+            begins(rt.alloc(), source, TokenKind::Char, left),
+            "{source:?}"
+        );
     }
 }
 
@@ -215,20 +224,29 @@ fn refuses_characters(rt: HostRuntime) {
 fn refuses_numbers(rt: HostRuntime) {
     for source in NO_NUMBERS {
         assert!(rt; lacks(rt.alloc(), source, TokenKind::Number), "{source:?}");
-        assert!(rt; lacks(rt.alloc(), source, TokenKind::Fraction), "{source:?}");
+        assert!(rt;
+            lacks(rt.alloc(), source, TokenKind::Fraction),
+            "{source:?}"
+        );
     }
 }
 
 #[test]
 fn reads_integers(rt: HostRuntime) {
     for (source, left) in INTEGERS {
-        assert!(rt; begins(rt.alloc(), source, TokenKind::Number, left), "{source:?}");
+        assert!(rt;
+            begins(rt.alloc(), source, TokenKind::Number, left),
+            "{source:?}"
+        );
     }
 }
 
 #[test]
 fn reads_floats(rt: HostRuntime) {
     for (source, left) in FLOATS {
-        assert!(rt; begins(rt.alloc(), source, TokenKind::Fraction, left), "{source:?}");
+        assert!(rt;
+            begins(rt.alloc(), source, TokenKind::Fraction, left),
+            "{source:?}"
+        );
     }
 }

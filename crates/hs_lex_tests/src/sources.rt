@@ -100,119 +100,120 @@ fn names(rt: HostRuntime) {
     }
 }
 
+const SIGNS: [(&[u8], &[Row]); 18] = [
+    (
+        b"= == =>",
+        &[
+            (WordOp, b"=", 1, 1),
+            (VarSym, b"==", 1, 3),
+            (WordOp, b"=>", 1, 6),
+        ],
+    ),
+    (
+        b": :: :+ :::",
+        &[
+            (WordOp, b":", 1, 1),
+            (WordOp, b"::", 1, 3),
+            (ConSym, b":+", 1, 6),
+            (ConSym, b":::", 1, 9),
+        ],
+    ),
+    (
+        b".. ... .",
+        &[
+            (WordOp, b"..", 1, 1),
+            (VarSym, b"...", 1, 4),
+            (VarSym, b".", 1, 8),
+        ],
+    ),
+    (
+        b"\\x -> x",
+        &[
+            (WordOp, b"\\", 1, 1),
+            (VarId, b"x", 1, 2),
+            (WordOp, b"->", 1, 4),
+            (VarId, b"x", 1, 7),
+        ],
+    ),
+    (
+        b"a <- b|c",
+        &[
+            (VarId, b"a", 1, 1),
+            (WordOp, b"<-", 1, 3),
+            (VarId, b"b", 1, 6),
+            (WordOp, b"|", 1, 7),
+            (VarId, b"c", 1, 8),
+        ],
+    ),
+    (
+        b"x@ ~y",
+        &[
+            (VarId, b"x", 1, 1),
+            (WordOp, b"@", 1, 2),
+            (WordOp, b"~", 1, 4),
+            (VarId, b"y", 1, 5),
+        ],
+    ),
+    (b"--|", &[(VarSym, b"--|", 1, 1)]),
+    (
+        b"a --> b",
+        &[
+            (VarId, b"a", 1, 1),
+            (VarSym, b"-->", 1, 3),
+            (VarId, b"b", 1, 7),
+        ],
+    ),
+    (b"|--", &[(VarSym, b"|--", 1, 1)]),
+    (b"- -", &[(VarSym, b"-", 1, 1), (VarSym, b"-", 1, 3)]),
+    (
+        b"(a,b)",
+        &[
+            (Special, b"(", 1, 1),
+            (VarId, b"a", 1, 2),
+            (Special, b",", 1, 3),
+            (VarId, b"b", 1, 4),
+            (Special, b")", 1, 5),
+        ],
+    ),
+    (
+        b"[];`{}",
+        &[
+            (Special, b"[", 1, 1),
+            (Special, b"]", 1, 2),
+            (Special, b";", 1, 3),
+            (Special, b"`", 1, 4),
+            (Special, b"{", 1, 5),
+            (Special, b"}", 1, 6),
+        ],
+    ),
+    (
+        b"A.1",
+        &[
+            (ConId, b"A", 1, 1),
+            (VarSym, b".", 1, 2),
+            (Number, b"1", 1, 3),
+        ],
+    ),
+    (
+        b"\xe2\x88\x80x",
+        &[(VarSym, b"\xe2\x88\x80", 1, 1), (VarId, b"x", 1, 2)],
+    ),
+    (b"\xe2\x86\x92", &[(VarSym, b"\xe2\x86\x92", 1, 1)]),
+    (
+        b"\xce\xbbx \xc3\x89a",
+        &[(VarId, b"\xce\xbbx", 1, 1), (ConId, b"\xc3\x89a", 1, 4)],
+    ),
+    (b"\xc7\x85", &[(ConId, b"\xc7\x85", 1, 1)]),
+    (
+        b"a\xd9\xa3+\xc3\x97",
+        &[(VarId, b"a\xd9\xa3", 1, 1), (VarSym, b"+\xc3\x97", 1, 3)],
+    ),
+];
+
 /// Operators, reserved operators and special characters.
 #[test]
 fn signs(rt: HostRuntime) {
-    const ROWS: [(&[u8], &[Row]); 18] = [
-        (
-            b"= == =>",
-            &[
-                (WordOp, b"=", 1, 1),
-                (VarSym, b"==", 1, 3),
-                (WordOp, b"=>", 1, 6),
-            ],
-        ),
-        (
-            b": :: :+ :::",
-            &[
-                (WordOp, b":", 1, 1),
-                (WordOp, b"::", 1, 3),
-                (ConSym, b":+", 1, 6),
-                (ConSym, b":::", 1, 9),
-            ],
-        ),
-        (
-            b".. ... .",
-            &[
-                (WordOp, b"..", 1, 1),
-                (VarSym, b"...", 1, 4),
-                (VarSym, b".", 1, 8),
-            ],
-        ),
-        (
-            b"\\x -> x",
-            &[
-                (WordOp, b"\\", 1, 1),
-                (VarId, b"x", 1, 2),
-                (WordOp, b"->", 1, 4),
-                (VarId, b"x", 1, 7),
-            ],
-        ),
-        (
-            b"a <- b|c",
-            &[
-                (VarId, b"a", 1, 1),
-                (WordOp, b"<-", 1, 3),
-                (VarId, b"b", 1, 6),
-                (WordOp, b"|", 1, 7),
-                (VarId, b"c", 1, 8),
-            ],
-        ),
-        (
-            b"x@ ~y",
-            &[
-                (VarId, b"x", 1, 1),
-                (WordOp, b"@", 1, 2),
-                (WordOp, b"~", 1, 4),
-                (VarId, b"y", 1, 5),
-            ],
-        ),
-        (b"--|", &[(VarSym, b"--|", 1, 1)]),
-        (
-            b"a --> b",
-            &[
-                (VarId, b"a", 1, 1),
-                (VarSym, b"-->", 1, 3),
-                (VarId, b"b", 1, 7),
-            ],
-        ),
-        (b"|--", &[(VarSym, b"|--", 1, 1)]),
-        (b"- -", &[(VarSym, b"-", 1, 1), (VarSym, b"-", 1, 3)]),
-        (
-            b"(a,b)",
-            &[
-                (Special, b"(", 1, 1),
-                (VarId, b"a", 1, 2),
-                (Special, b",", 1, 3),
-                (VarId, b"b", 1, 4),
-                (Special, b")", 1, 5),
-            ],
-        ),
-        (
-            b"[];`{}",
-            &[
-                (Special, b"[", 1, 1),
-                (Special, b"]", 1, 2),
-                (Special, b";", 1, 3),
-                (Special, b"`", 1, 4),
-                (Special, b"{", 1, 5),
-                (Special, b"}", 1, 6),
-            ],
-        ),
-        (
-            b"A.1",
-            &[
-                (ConId, b"A", 1, 1),
-                (VarSym, b".", 1, 2),
-                (Number, b"1", 1, 3),
-            ],
-        ),
-        (
-            b"\xe2\x88\x80x",
-            &[(VarSym, b"\xe2\x88\x80", 1, 1), (VarId, b"x", 1, 2)],
-        ),
-        (b"\xe2\x86\x92", &[(VarSym, b"\xe2\x86\x92", 1, 1)]),
-        (
-            b"\xce\xbbx \xc3\x89a",
-            &[(VarId, b"\xce\xbbx", 1, 1), (ConId, b"\xc3\x89a", 1, 4)],
-        ),
-        (b"\xc7\x85", &[(ConId, b"\xc7\x85", 1, 1)]),
-        (
-            b"a\xd9\xa3+\xc3\x97",
-            &[(VarId, b"a\xd9\xa3", 1, 1), (VarSym, b"+\xc3\x97", 1, 3)],
-        ),
-    ];
-    for (source, rows) in ROWS {
+    for (source, rows) in SIGNS {
         assert!(rt; lexes_as(rt.alloc(), source, rows));
     }
 }
@@ -261,72 +262,73 @@ fn comments_and_places(rt: HostRuntime) {
     }
 }
 
+const LITERALS: [(&[u8], &[Row]); 17] = [
+    (b"12", &[(Number, b"12", 1, 1)]),
+    (
+        b"0x1F 0o17",
+        &[(Number, b"0x1F", 1, 1), (Number, b"0o17", 1, 6)],
+    ),
+    (
+        b"'a' '\\''",
+        &[(Char, b"'a'", 1, 1), (Char, b"'\\''", 1, 5)],
+    ),
+    (b"f'x' 'x'", &[(VarId, b"f'x'", 1, 1), (Char, b"'x'", 1, 6)]),
+    (b"1.5", &[(Fraction, b"1.5", 1, 1)]),
+    (b"1e5", &[(Fraction, b"1e5", 1, 1)]),
+    (
+        b"1.5e-3x",
+        &[(Fraction, b"1.5e-3", 1, 1), (VarId, b"x", 1, 7)],
+    ),
+    (
+        b"1.e",
+        &[
+            (Number, b"1", 1, 1),
+            (VarSym, b".", 1, 2),
+            (VarId, b"e", 1, 3),
+        ],
+    ),
+    (
+        b"1..2",
+        &[
+            (Number, b"1", 1, 1),
+            (WordOp, b"..", 1, 2),
+            (Number, b"2", 1, 4),
+        ],
+    ),
+    (b"1e", &[(Number, b"1", 1, 1), (VarId, b"e", 1, 2)]),
+    (b"0x", &[(Number, b"0", 1, 1), (VarId, b"x", 1, 2)]),
+    (
+        b"1.5e+x",
+        &[
+            (Fraction, b"1.5", 1, 1),
+            (VarId, b"e", 1, 4),
+            (VarSym, b"+", 1, 5),
+            (VarId, b"x", 1, 6),
+        ],
+    ),
+    (b"\"\"", &[(Text, b"\"\"", 1, 1)]),
+    (
+        b"\"a\\\"b\" x",
+        &[(Text, b"\"a\\\"b\"", 1, 1), (VarId, b"x", 1, 8)],
+    ),
+    (
+        b"\"a\\\n \\b\"c",
+        &[(Text, b"\"a\\\n \\b\"", 1, 1), (VarId, b"c", 2, 5)],
+    ),
+    (
+        b"f\"-- {-\"",
+        &[(VarId, b"f", 1, 1), (Text, b"\"-- {-\"", 1, 2)],
+    ),
+    (
+        b"\"\xe3\x81\x82\"x",
+        &[(Text, b"\"\xe3\x81\x82\"", 1, 1), (VarId, b"x", 1, 4)],
+    ),
+];
+
 /// Numbers and strings.
 #[test]
 fn literals(rt: HostRuntime) {
-    const ROWS: [(&[u8], &[Row]); 17] = [
-        (b"12", &[(Number, b"12", 1, 1)]),
-        (
-            b"0x1F 0o17",
-            &[(Number, b"0x1F", 1, 1), (Number, b"0o17", 1, 6)],
-        ),
-        (
-            b"'a' '\\''",
-            &[(Char, b"'a'", 1, 1), (Char, b"'\\''", 1, 5)],
-        ),
-        (b"f'x' 'x'", &[(VarId, b"f'x'", 1, 1), (Char, b"'x'", 1, 6)]),
-        (b"1.5", &[(Fraction, b"1.5", 1, 1)]),
-        (b"1e5", &[(Fraction, b"1e5", 1, 1)]),
-        (
-            b"1.5e-3x",
-            &[(Fraction, b"1.5e-3", 1, 1), (VarId, b"x", 1, 7)],
-        ),
-        (
-            b"1.e",
-            &[
-                (Number, b"1", 1, 1),
-                (VarSym, b".", 1, 2),
-                (VarId, b"e", 1, 3),
-            ],
-        ),
-        (
-            b"1..2",
-            &[
-                (Number, b"1", 1, 1),
-                (WordOp, b"..", 1, 2),
-                (Number, b"2", 1, 4),
-            ],
-        ),
-        (b"1e", &[(Number, b"1", 1, 1), (VarId, b"e", 1, 2)]),
-        (b"0x", &[(Number, b"0", 1, 1), (VarId, b"x", 1, 2)]),
-        (
-            b"1.5e+x",
-            &[
-                (Fraction, b"1.5", 1, 1),
-                (VarId, b"e", 1, 4),
-                (VarSym, b"+", 1, 5),
-                (VarId, b"x", 1, 6),
-            ],
-        ),
-        (b"\"\"", &[(Text, b"\"\"", 1, 1)]),
-        (
-            b"\"a\\\"b\" x",
-            &[(Text, b"\"a\\\"b\"", 1, 1), (VarId, b"x", 1, 8)],
-        ),
-        (
-            b"\"a\\\n \\b\"c",
-            &[(Text, b"\"a\\\n \\b\"", 1, 1), (VarId, b"c", 2, 5)],
-        ),
-        (
-            b"f\"-- {-\"",
-            &[(VarId, b"f", 1, 1), (Text, b"\"-- {-\"", 1, 2)],
-        ),
-        (
-            b"\"\xe3\x81\x82\"x",
-            &[(Text, b"\"\xe3\x81\x82\"", 1, 1), (VarId, b"x", 1, 4)],
-        ),
-    ];
-    for (source, rows) in ROWS {
+    for (source, rows) in LITERALS {
         assert!(rt; lexes_as(rt.alloc(), source, rows));
     }
 }
@@ -382,73 +384,74 @@ fn language_pragmas(rt: HostRuntime) {
     }
 }
 
+const SOURCE_PRAGMAS: [(&[u8], &[Row]); 10] = [
+    (b"{-# SOURCE #-} x", &[(VarId, b"x", 1, 16)]),
+    (
+        b"import {-# SOURCE #-} A",
+        &[
+            (Word, b"import", 1, 1),
+            (Pragma, b"{-# SOURCE #-}", 1, 8),
+            (ConId, b"A", 1, 23),
+        ],
+    ),
+    (
+        b"import{-#source#-}A",
+        &[
+            (Word, b"import", 1, 1),
+            (Pragma, b"{-#source#-}", 1, 7),
+            (ConId, b"A", 1, 19),
+        ],
+    ),
+    (
+        b"import A {-# SOURCE #-}",
+        &[(Word, b"import", 1, 1), (ConId, b"A", 1, 8)],
+    ),
+    (
+        b"import {-# SOURCE #-}{-# SOURCE #-} A",
+        &[
+            (Word, b"import", 1, 1),
+            (Pragma, b"{-# SOURCE #-}", 1, 8),
+            (ConId, b"A", 1, 37),
+        ],
+    ),
+    (
+        b"import {- c -} {-# SOURCE #-} A",
+        &[
+            (Word, b"import", 1, 1),
+            (Pragma, b"{-# SOURCE #-}", 1, 16),
+            (ConId, b"A", 1, 31),
+        ],
+    ),
+    (
+        b"import qualified {-# SOURCE #-} A",
+        &[
+            (Word, b"import", 1, 1),
+            (VarId, b"qualified", 1, 8),
+            (ConId, b"A", 1, 33),
+        ],
+    ),
+    (
+        b"import {-# SOURCE x #-} A",
+        &[(Word, b"import", 1, 1), (ConId, b"A", 1, 25)],
+    ),
+    (
+        b"import {-# LANGUAGE A #-} A",
+        &[(Word, b"import", 1, 1), (ConId, b"A", 1, 27)],
+    ),
+    (
+        b"import\n{-# sOURCE\n#-}\nA",
+        &[
+            (Word, b"import", 1, 1),
+            (Pragma, b"{-# sOURCE\n#-}", 2, 1),
+            (ConId, b"A", 4, 1),
+        ],
+    ),
+];
+
 /// Pragmas for SOURCE.
 #[test]
 fn source_pragmas(rt: HostRuntime) {
-    const ROWS: [(&[u8], &[Row]); 10] = [
-        (b"{-# SOURCE #-} x", &[(VarId, b"x", 1, 16)]),
-        (
-            b"import {-# SOURCE #-} A",
-            &[
-                (Word, b"import", 1, 1),
-                (Pragma, b"{-# SOURCE #-}", 1, 8),
-                (ConId, b"A", 1, 23),
-            ],
-        ),
-        (
-            b"import{-#source#-}A",
-            &[
-                (Word, b"import", 1, 1),
-                (Pragma, b"{-#source#-}", 1, 7),
-                (ConId, b"A", 1, 19),
-            ],
-        ),
-        (
-            b"import A {-# SOURCE #-}",
-            &[(Word, b"import", 1, 1), (ConId, b"A", 1, 8)],
-        ),
-        (
-            b"import {-# SOURCE #-}{-# SOURCE #-} A",
-            &[
-                (Word, b"import", 1, 1),
-                (Pragma, b"{-# SOURCE #-}", 1, 8),
-                (ConId, b"A", 1, 37),
-            ],
-        ),
-        (
-            b"import {- c -} {-# SOURCE #-} A",
-            &[
-                (Word, b"import", 1, 1),
-                (Pragma, b"{-# SOURCE #-}", 1, 16),
-                (ConId, b"A", 1, 31),
-            ],
-        ),
-        (
-            b"import qualified {-# SOURCE #-} A",
-            &[
-                (Word, b"import", 1, 1),
-                (VarId, b"qualified", 1, 8),
-                (ConId, b"A", 1, 33),
-            ],
-        ),
-        (
-            b"import {-# SOURCE x #-} A",
-            &[(Word, b"import", 1, 1), (ConId, b"A", 1, 25)],
-        ),
-        (
-            b"import {-# LANGUAGE A #-} A",
-            &[(Word, b"import", 1, 1), (ConId, b"A", 1, 27)],
-        ),
-        (
-            b"import\n{-# sOURCE\n#-}\nA",
-            &[
-                (Word, b"import", 1, 1),
-                (Pragma, b"{-# sOURCE\n#-}", 2, 1),
-                (ConId, b"A", 4, 1),
-            ],
-        ),
-    ];
-    for (source, rows) in ROWS {
+    for (source, rows) in SOURCE_PRAGMAS {
         assert!(rt; lexes_as(rt.alloc(), source, rows));
     }
 }

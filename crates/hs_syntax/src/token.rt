@@ -97,4 +97,3 @@ impl Plain for Token {
         })
     }
 }
-
