@@ -1,7 +1,6 @@
 -- A lexeme's qualifier and name are the parts that the lexer finds in it.
-use Rattle.std.specs.Prelude.{map, encode_utf8, encode_utf8_all, if◌then◌else◌}
-use Rattle.std.specs.Char.{IsScalar}
-use Rattle.std.proofs.Math.Utf8.{scalar}
+use Rattle.std.specs.Prelude.{map, encode_utf8_all, if◌then◌else◌}
+use Rattle.std.specs.Char.{IsScalar, encode_utf8}
 use Rattle.std.proofs.Common.{◌≡◌, ◌⊎◌, inl, inr, ⊎_elim, ℕ, ◌+◌, ◌-◌, ◌*◌, ◌/◌, ◌%◌, ◌<◌, ◌≤◌, Bool, true, false, nat_eq, nat_lt, cond, List, [], ◌∷◌, ◌++◌, length, take, None, refl, sym, ap, subst, ◌∙◌, arith, append_assoc, take_all}
 use Rattle.std.proofs.lemmas.List.{append-nil}
 use Rattle.std.proofs.lemmas.Bool.{false≢true, cond-true, cond-false, eqb-true, cases_Bool}
@@ -51,8 +50,8 @@ encoded c h =
     let b = high (128 + (c / 64) % 64) (omega arith) in
     let d = high (128 + (c / 4096) % 64) (omega arith) in
     either_list (nat_lt c 128) (c ∷ []) (if nat_lt c 2048 then two else (if nat_lt c 65536 then three else four)) (h, tt)
-    (either_list (nat_lt c 2048) two (if nat_lt c 65536 then three else four) (high (192 + c / 64) (omega arith), a, tt)
-    (either_list (nat_lt c 65536) three four (high (224 + c / 4096) (omega arith), b, a, tt) (high (240 + c / 262144) (omega arith), d, b, a, tt)))
+    (either_list (nat_lt c 2048) two (if nat_lt c 65536 then three else four) (high (192 + c / 64) (omega arith), (a, tt))
+    (either_list (nat_lt c 65536) three four (high (224 + c / 4096) (omega arith), (b, (a, tt))) (high (240 + c / 262144) (omega arith), (d, (b, (a, tt))))))
 
 dot_name : in_part part.Name 46 ≡ false
 unfolding in_part class_of class_of_char
@@ -119,7 +118,6 @@ unfolding class_of
 not_character c h = ⊎_elim (λ y. absurd (false≢true (sym h ∙ ap is_character (eqb-true c 34 y)))) (λ n. cond-false _ _ _ n ∙ ⊎_elim (λ y. absurd (false≢true (sym h ∙ ap is_character (eqb-true c 39 y)))) (λ m. cond-false _ _ _ m ∙ cond-false _ _ _ h) (cases_Bool (nat_eq c 39))) (cases_Bool (nat_eq c 34))
 
 character_scalar : (c : ℕ) → is_character c ≡ true → IsScalar c
-unfolding scalar
 character_scalar c h = grind (arith, nat_tests)
 
 class_scalar : (c : ℕ) → (class_of c ≡ class.Other → ⊥) → IsScalar c
