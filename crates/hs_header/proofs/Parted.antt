@@ -228,8 +228,7 @@ parted bs qs n rest h =
     let same : bs ≡ dotted (map encode_utf8_all qs ++ encode_utf8_all n ∷ []) = all_bytes bs chars ∙ ap encode_utf8_all h.0 ∙ spelled (qs ++ n ∷ []) ∙ ap dotted (map_last qs n) in
     let end : IsEnd n = last_end n rest h.2 in
     let pieces : between_dots bs ≡ map encode_utf8_all qs ++ end.0 ∷ end.1 = ap between_dots same ∙ pieces_of qs n h.1 ∙ ap (λ z. map encode_utf8_all qs ++ z) end.2 in
-    let w = over_qualifier qs end.0 end.1 h.1 in
-    (
+    let w = over_qualifier qs end.0 end.1 h.1 in (
       ap (λ z. dotted (qualifier_of z)) pieces ∙ ap dotted (w.0 ∙ ap (λ z. map encode_utf8_all qs ++ z) end.3 ∙ append-nil (map encode_utf8_all qs)) ∙ sym (spelled qs),
       ap (λ z. dotted (name_of z)) pieces ∙ ap dotted (w.1 ∙ end.4 ∙ sym end.2) ∙ whole (encode_utf8_all n),
     )
