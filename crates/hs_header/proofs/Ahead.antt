@@ -24,7 +24,8 @@ use Rattle.hs_header.specs.declared.state.State.{State}
 use Rattle.hs_header.specs.declared.state.Turn.TheVariants.{On}
 use Rattle.hs_header.specs.Names.{name_ref, module_ref}
 use Rattle.hs_header.specs.Terminals.{terminal_of}
-use Rattle.hs_header.specs.Machine.{ended, step_at, first_place, main_export, with_name, with_export, with_exports, with_item, with_list, with_alias, listed, import_of, export_of, item_of}
+use Rattle.mk_base.specs.Places.{first_place}
+use Rattle.hs_header.specs.Machine.{ended, step_at, main_export, with_name, with_export, with_exports, with_item, with_list, with_alias, listed, import_of, export_of, item_of}
 use Rattle.hs_header.specs.Machine as machine
 use Rattle.hs_header.specs.Grammar.{Leaf, Read, read_all}
 use Rattle.hs_header.proofs.States.{st}
@@ -32,7 +33,7 @@ use Rattle.hs_header.proofs.SubsFound.{formed, formed_is}
 use Rattle.hs_header.proofs.Complete.{one}
 
 abbrev lexeme : TokenKind → List ℕ → Token
-lexeme k text = record { kind = k; text = text; start = 0; end = 0; at = first_place; put = false; sign = None }
+lexeme k text = record { kind = k; text = text; start = 0; end = 0; at = first_place; put = None }
 
 the_close : Leaf CloseParen
 unfolding terminal_of

@@ -7,7 +7,7 @@ use Rattle.hs_syntax.specs.declared.token.Token.{Token}
 use Rattle.hs_lex.specs.declared.cursor.Cursor.{Cursor}
 use Rattle.hs_lex.specs.Tokens.{IsNext, IsBlank, IsBadFrom, IsReached}
 use Rattle.hs_lex.specs.Tokens as lex
-use Rattle.hs_lex.specs.Slow.{Kept, lexemes_from}
+use Rattle.hs_lex.specs.Slow.{Lexed, lexemes_from}
 use Rattle.hs_lex.proofs.Kept.{next_kept, blank_kept, bad_kept, next_near}
 use Rattle.hs_header.specs.declared.header_err.HeaderErr.{HeaderErr}
 use Rattle.hs_header.specs.declared.header_err.HeaderErr.TheVariants as error
@@ -19,7 +19,7 @@ use Rattle.hs_header.specs.Reading.{Fault, Lexeme, over, over_all, at_last, goin
 reader : Cursor → Progress → Reader
 reader c k = record { cursor = c; known = k }
 
-kept : Progress → Kept → Result Header Fault
+kept : Progress → Lexed → Result Header Fault
 kept k r = over_all k r.0 r.1
 
 -- over the first lexeme
@@ -40,7 +40,7 @@ fault_is source r t c (error.Extension at name) x h = over_one source r t c x �
 fault_is source r t c error.NoMemory x h = tt
 
 pub fewer : (source : List ℕ) (c d : Cursor) (t : Token) → IsNext source c t d → length (lexemes_from source d).0 < length (lexemes_from source c).0
-fewer source c d t x = omega (arith, ap (λ (r : Kept). length r.0) (next_kept source c d t x))
+fewer source c d t x = omega (arith, ap (λ (r : Lexed). length r.0) (next_kept source c d t x))
 
 -- where a lexeme stands
 pub near_line : (source : List ℕ) (c d : Cursor) (t : Token) → length source ≤ 1048576 → IsReached source c → IsNext source c t d → t.at.line + length t.text + 1 < 4294967296

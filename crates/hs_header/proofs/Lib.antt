@@ -11,3 +11,5 @@ pub mod Complete
 pub mod Spelled
 pub mod Ahead
 pub mod FirstBad
+pub mod Named
+pub mod Parted

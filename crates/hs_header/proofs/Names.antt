@@ -76,7 +76,7 @@ onto_some : (b : ℕ) (ps : List (List ℕ)) → (p : List ℕ) × (qs : List (L
 onto_some b [] = (b ∷ [], [], refl)
 onto_some b (p ∷ ps) = (b ∷ p, ps, refl)
 
-some_piece : (bs : List ℕ) → (p : List ℕ) × (qs : List (List ℕ)) × (between_dots bs ≡ p ∷ qs)
+pub some_piece : (bs : List ℕ) → (p : List ℕ) × (qs : List (List ℕ)) × (between_dots bs ≡ p ∷ qs)
 unfolding between_dots
 some_piece [] = ([], [], refl)
 some_piece (b ∷ bs) =
@@ -93,7 +93,7 @@ dotted_none : (ps : List (List ℕ)) (p : List ℕ) (qs : List (List ℕ)) → p
 dotted_none [] p qs e = absurd (cc)
 dotted_none (x ∷ xs) p qs e = refl
 
-whole : (bs : List ℕ) → dotted (between_dots bs) ≡ bs
+pub whole : (bs : List ℕ) → dotted (between_dots bs) ≡ bs
 unfolding between_dots
 whole [] = refl
 whole (b ∷ bs) =
@@ -150,11 +150,11 @@ name_more : (p : List ℕ) (ps : List (List ℕ)) (q : List ℕ) (qs : List (Lis
 name_more p [] q qs e h = absurd (cc)
 name_more p (x ∷ xs) q qs e h = ap (λ t. cond t (name_of (x ∷ xs)) (p ∷ x ∷ xs)) h
 
-qualifier_end : (p : List ℕ) (ps : List (List ℕ)) → begins_large p ≡ false → qualifier_of (p ∷ ps) ≡ []
+pub qualifier_end : (p : List ℕ) (ps : List (List ℕ)) → begins_large p ≡ false → qualifier_of (p ∷ ps) ≡ []
 qualifier_end p [] h = refl
 qualifier_end p (x ∷ xs) h = ap (λ t. cond t (p ∷ qualifier_of (x ∷ xs)) []) h
 
-name_end : (p : List ℕ) (ps : List (List ℕ)) → begins_large p ≡ false → name_of (p ∷ ps) ≡ p ∷ ps
+pub name_end : (p : List ℕ) (ps : List (List ℕ)) → begins_large p ≡ false → name_of (p ∷ ps) ≡ p ∷ ps
 name_end p [] h = refl
 name_end p (x ∷ xs) h = ap (λ t. cond t (name_of (x ∷ xs)) (p ∷ x ∷ xs)) h
 

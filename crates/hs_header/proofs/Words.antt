@@ -41,7 +41,7 @@ pub all_characters : (l : List ℕ) → AllIn part.Name l → AllCharacters l
 all_characters [] h = tt
 all_characters (c ∷ l) h = ((λ e. false≢true (sym name_is_character ∙ ap (in_part part.Name) (sym e) ∙ h.0)), all_characters l h.1)
 
-first_of : (p : Place) (l m next : List ℕ) (c : ℕ) → l ++ m ≡ c ∷ next → in_part part.Name c ≡ true → AllIn part.Name l → Ends part.Name m → words None p (l ++ m) ≡ (position p, encode_utf8_all l) ∷ words None (after p l) m
+pub first_of : (p : Place) (l m next : List ℕ) (c : ℕ) → l ++ m ≡ c ∷ next → in_part part.Name c ≡ true → AllIn part.Name l → Ends part.Name m → words None p (l ++ m) ≡ (position p, encode_utf8_all l) ∷ words None (after p l) m
 unfolding words after
 first_of p [] m next c e h a n = absurd (false≢true (sym (let k : in_part part.Name c ≡ false = subst (Ends part.Name) e n in k) ∙ h))
 first_of p (d ∷ l) m next c e h a n = cond-true _ _ _ a.0 ∙ goes_on (p, d ∷ []) (step p d) l m a.1 ∙ ends (p, d ∷ l) (after (step p d) l) m n

@@ -1,5 +1,5 @@
 -- Pragmas for LANGUAGE: which extensions they name, and what these say.
-use Rattle.std.specs.Prelude.{◌≡◌, ℕ, true, false, List, [], ◌∷◌, ◌++◌, Option, Some, None, Result, Ok, Err, codes, encode_utf8_all, if◌then◌else◌}
+use Rattle.std.specs.Prelude.{◌≡◌, ℕ, true, false, List, [], ◌∷◌, ◌++◌, map, Option, Some, None, Result, Ok, Err, codes, encode_utf8_all, if◌then◌else◌}
 use Rattle.std.specs.Str.{bytes_eq}
 use Rattle.mk_base.specs.declared.place.Pos.{Pos}
 use Rattle.source_text.specs.Characters.{characters}
@@ -8,6 +8,8 @@ use Rattle.source_text.specs.declared.place.Place.{Place}
 use Rattle.hs_syntax.specs.declared.token.Token.{Token}
 use Rattle.hs_lex.specs.declared.class.Part.TheVariants as part
 use Rattle.hs_lex.specs.Classes.{in_part}
+use Rattle.hs_lex.specs.Reading.{AllIn}
+use Rattle.hs_lex.specs.Pragmas.{IsKeyword, IsGap, IsIdentifier, IsList, IsLanguage}
 use Rattle.hs_lex.specs.Tokens.{position}
 use Rattle.hs_header.specs.declared.extension.Flags.{Flags}
 use Rattle.hs_header.specs.declared.header_err.HeaderErr.{HeaderErr}
@@ -73,3 +75,15 @@ IsUnknown r (Extension at name) = r ≡ Err (at, name)
 IsUnknown r NoMemory = Unit {0}
 IsUnknown r (Lexeme at) = ⊥
 IsUnknown r (Grammar at) = ⊥
+
+-- The lexer's pragma for LANGUAGE, with its names.
+abbrev pub IsNaming : List (List ℕ) → List ℕ → Type 0
+IsNaming [] l = ⊥
+IsNaming (n ∷ ns) l = (v k w m : List ℕ) × (l ≡ codes "{-#" ++ (v ++ (k ++ (w ++ (n ++ m))))) × AllIn part.White v × IsKeyword (codes "language") k × IsGap w × IsIdentifier n × IsList ns m
+
+abbrev pub text_of : Word → List ℕ
+text_of w = w.1
+
+-- The words of such a pragma are its names.
+abbrev pub WordsAreNames : Type 0
+WordsAreNames = (p : Place) (l : List ℕ) → IsLanguage l → (ns : List (List ℕ)) × IsNaming ns l × (map text_of (behind_keyword (words None p l)) ≡ map encode_utf8_all ns)

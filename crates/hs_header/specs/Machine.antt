@@ -2,6 +2,7 @@
 use Rattle.std.specs.Prelude.{Bool, true, false, List, [], ◌∷◌, ◌++◌, Some, None, codes}
 use Rattle.std.specs.declared.option.Option.{Option}
 use Rattle.mk_base.specs.declared.place.Pos.{Pos}
+use Rattle.mk_base.specs.Places.{first_place}
 use Rattle.hs_syntax.specs.declared.name_ref.NameRef.{NameRef}
 use Rattle.hs_syntax.specs.declared.header.Header.{Header}
 use Rattle.hs_syntax.specs.declared.header.ExportItem.{ExportItem}
@@ -30,9 +31,6 @@ use Rattle.hs_header.specs.Names.{name_ref, module_ref}
 use Rattle.hs_header.specs.Terminals.{terminal_of}
 
 -- What is added to a header.
-
-abbrev pub first_place : Pos
-first_place = record { line = 1; col = 1 }
 
 -- the export of a module without `module` line, which is `module Main (main) where`
 abbrev pub main_export : ExportItem

@@ -1,7 +1,7 @@
 -- The tokens that the grammar of headers tells apart.
-use Rattle.std.specs.Prelude.{ℕ, nat_eq, Bool, true, false, List, Some, None, codes, if◌then◌else◌}
-use Rattle.std.specs.Cmp.Lexicographic.{pointwise}
+use Rattle.std.specs.Prelude.{ℕ, Bool, true, false, List, Some, None, codes, if◌then◌else◌}
 use Rattle.std.specs.declared.option.Option.{Option}
+use Rattle.mk_base.specs.Texts.{same_text}
 use Rattle.hs_syntax.specs.declared.token.Token.{Token}
 use Rattle.hs_syntax.specs.declared.token.TokenKind.{TokenKind}
 use Rattle.hs_syntax.specs.declared.token.TokenKind.TheVariants as kind
@@ -11,9 +11,6 @@ use Rattle.hs_header.specs.declared.terminal.VarWord.{VarWord}
 use Rattle.hs_header.specs.declared.terminal.VarWord.TheVariants.{As, Qualified, Hiding, Plain}
 use Rattle.hs_header.specs.declared.terminal.Terminal.{Terminal}
 use Rattle.hs_header.specs.declared.terminal.Terminal.TheVariants.{Open, Close, Next, OpenParen, CloseParen, Comma, Dots, Module, Where, Import, Source, Var, QualifiedVar, VarOperator, QualifiedVarOperator, Con, QualifiedCon, ConOperator, Other}
-
-abbrev pub same_text : List ℕ → List ℕ → Bool
-same_text a b = pointwise nat_eq a b
 
 -- `as`, `qualified` and `hiding` are variables that mean more at some places
 abbrev pub var_word : List ℕ → VarWord
@@ -52,4 +49,4 @@ terminal None k text = written k text
 
 -- what a token is to the grammar
 unfoldable pub terminal_of : Token → Terminal
-terminal_of t = terminal t.sign t.kind t.text
+terminal_of t = terminal t.put t.kind t.text

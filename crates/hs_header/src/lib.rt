@@ -10,11 +10,7 @@ pub mod law;
 mod name;
 mod parts;
 pub mod read;
-mod state;
-mod step;
-#[cfg(test)]
-mod step_tests;
+pub mod state;
+pub mod step;
 mod subs;
 mod terminal;
-#[cfg(test)]
-mod tests;

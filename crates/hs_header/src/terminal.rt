@@ -51,7 +51,7 @@ pub enum Terminal {
 pub fn terminal_of(token: &Token) -> Terminal
     ensures { result ≡ spec.terminal_of token.now }
 {
-    match token.sign {
+    match token.put {
         Some(PutSign::Open) => Terminal::Open(true),
         Some(PutSign::Semicolon) => Terminal::Next,
         Some(PutSign::Close) => Terminal::Close(true),

@@ -22,7 +22,7 @@ use Rattle.hs_layout.specs.Roles.{role_of, is_branch}
 use Rattle.hs_layout.specs.Frames.{is_block, is_put}
 use Rattle.hs_layout.specs.Looks.{look_at, reaches}
 use Rattle.hs_layout.specs.Rules.{Step, stay, and_then, closing, down_past, down_to, indentation, frame, with_notes, no_notes, see_top, counted, is_context, renew, is_level, punctuate, at_line, at_opening, pop, at_end_of, answered, at_answer, at_comma, at_where, without_let, is_direct, at_sign, at_bar, at_lexeme, add_note, opened, behind_lexeme}
-use Rattle.hs_layout.specs.Braced.{bars_opening, opening_at, at_mark, ends_in_semicolon, is_first_of_line, behind_semicolon, marked, before, opener, put_token, spot_of, is_pragma, pieces, state_behind, after, at_last, at_end, braced_from, start, braced}
+use Rattle.hs_layout.specs.Braced.{bars_opening, opening_at, at_mark, ends_in_semicolon, is_first_of_line, behind_semicolon, marked, before, opener, put_token, spot_of, is_pragma, pieces, state_behind, after, at_last, at_end, braced_from, start, braced, behind_pragma}
 use Rattle.hs_layout.specs.Source.{IsSource, sign_in, signs, level}
 
 -- how many blocks are open
@@ -221,43 +221,39 @@ marked_sound st t r h =
 before_sound : (st : State) (t : Token) (r : Role) → OpensBlock st.opens → Sound st.frames (before st t r)
 before_sound st t r h = then_sound st.frames (marked st t r) (at_lexeme r (ends_in_semicolon false (marked st t r).puts) t.at.col) (marked_sound st t r h) (lexeme_sound r (ends_in_semicolon false (marked st t r).puts) t.at.col (marked st t r).frames)
 
-joined : (b : Bool) (x : List PutSign) (r s : List PutSign) → (if b then x ++ (r ++ s) else r ++ s) ≡ (if b then x ++ r else r) ++ s
-joined true x r s = sym (append_assoc x r s)
-joined false x r s = refl
-
 signs_append : (a b : List Token) → signs (a ++ b) ≡ signs a ++ signs b
 signs_append [] b = refl
-signs_append (t ∷ a) b = ap (λ z. if t.put then sign_in t.sign ++ z else z) (signs_append a b) ∙ joined t.put (sign_in t.sign) (signs a) (signs b)
+signs_append (t ∷ a) b = ap (λ z. sign_in t.put ++ z) (signs_append a b) ∙ sym (append_assoc (sign_in t.put) (signs a) (signs b))
 
 signs_puts : (s : Spot) (ss : List PutSign) → signs (map (put_token s) ss) ≡ ss
 signs_puts s [] = refl
 signs_puts s (x ∷ ss) = ap (λ z. x ∷ z) (signs_puts s ss)
 
-none_in : (t : Token) → t.put ≡ false → signs (t ∷ []) ≡ []
-none_in t h = ap (λ z. if z then sign_in t.sign ++ [] else []) h
+none_in : (t : Token) → t.put ≡ None → signs (t ∷ []) ≡ []
+none_in t h = ap (λ z. sign_in z ++ []) h
 
-signs_lexeme : (s : Spot) (ss : List PutSign) (t : Token) → t.put ≡ false → signs (map (put_token s) ss ++ t ∷ []) ≡ ss
+signs_lexeme : (s : Spot) (ss : List PutSign) (t : Token) → t.put ≡ None → signs (map (put_token s) ss ++ t ∷ []) ≡ ss
 signs_lexeme s ss t h = signs_append (map (put_token s) ss) (t ∷ []) ∙ ap (λ z. z ++ signs (t ∷ [])) (signs_puts s ss) ∙ ap (λ z. ss ++ z) (none_in t h) ∙ append-nil ss
 
 -- a token, and the state behind it
 Leads : State → List Token → State → Type 0
 Leads st a st2 = (level (blocks st.frames) (signs a) ≡ Some (blocks st2.frames)) × OpensBlock st2.opens
 
-part : (b : Bool) (st st2 : State) (x a : List Token) → Leads st x st → Leads st a st2 → Leads st (if b then x else a) (if b then st else st2)
-part true st st2 x a p q = p
-part false st st2 x a p q = q
+part : (b : Bool) (st st1 st2 : State) (x a : List Token) → Leads st x st1 → Leads st a st2 → Leads st (if b then x else a) (if b then st1 else st2)
+part true st st1 st2 x a p q = p
+part false st st1 st2 x a p q = q
 
-lexeme_leads : (st : State) (t : Token) (r : Role) → OpensBlock st.opens → t.put ≡ false → Leads st (map (put_token (spot_of t)) (before st t r).puts ++ t ∷ []) (state_behind st t r)
+lexeme_leads : (st : State) (t : Token) (r : Role) → OpensBlock st.opens → t.put ≡ None → Leads st (map (put_token (spot_of t)) (before st t r).puts ++ t ∷ []) (state_behind st t r)
 unfolding Leads Sound
 lexeme_leads st t r o h =
     (ap (λ z. level (blocks st.frames) z) (signs_lexeme (spot_of t) (before st t r).puts t h) ∙ before_sound st t r o ∙ ap Some (sym (same_behind r (before st t r).frames)), opener_is r)
 
-pragma_leads : (st : State) (t : Token) → OpensBlock st.opens → t.put ≡ false → Leads st (t ∷ []) st
+pragma_leads : (st : State) (t : Token) → OpensBlock st.opens → t.put ≡ None → Leads st (t ∷ []) (behind_pragma st t)
 unfolding Leads
 pragma_leads st t o h = (ap (λ z. level (blocks st.frames) z) (none_in t h), o)
 
-piece_leads : (st : State) (t : Token) → OpensBlock st.opens → t.put ≡ false → Leads st (pieces st t) (after st t)
-piece_leads st t o h = part (is_pragma t.kind) st (state_behind st t (role_of t)) (t ∷ []) (map (put_token (spot_of t)) (before st t (role_of t)).puts ++ t ∷ []) (pragma_leads st t o h) (lexeme_leads st t (role_of t) o h)
+piece_leads : (st : State) (t : Token) → OpensBlock st.opens → t.put ≡ None → Leads st (pieces st t) (after st t)
+piece_leads st t o h = part (is_pragma t.kind) st (behind_pragma st t) (state_behind st t (role_of t)) (t ∷ []) (map (put_token (spot_of t)) (before st t (role_of t)).puts ++ t ∷ []) (pragma_leads st t o h) (lexeme_leads st t (role_of t) o h)
 
 all_gone : (fs : List Frame) → (down_to target.End fs).frames ≡ []
 all_gone [] = refl

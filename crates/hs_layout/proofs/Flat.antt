@@ -22,7 +22,7 @@ use Rattle.hs_layout.specs.Roles.{role_of, is_branch}
 use Rattle.hs_layout.specs.Frames.{is_block, is_put}
 use Rattle.hs_layout.specs.Looks.{on_if, look_at, reaches}
 use Rattle.hs_layout.specs.Rules.{Step, stay, and_then, down_past, down_to, indentation, context_of, frame, with_notes, no_notes, see_top, counted, is_context, renew, is_level, punctuate, at_line, at_opening, pop, at_end_of, answered, at_where, without_let, is_direct, at_sign, at_bar, at_lexeme, add_note, opened}
-use Rattle.hs_layout.specs.Braced.{opening_at, at_mark, ends_in_semicolon, is_first_of_line, behind_semicolon, marked, before, is_pragma, state_behind, after, start}
+use Rattle.hs_layout.specs.Braced.{opening_at, at_mark, ends_in_semicolon, is_first_of_line, behind_semicolon, marked, before, is_pragma, state_behind, after, start, behind_pragma}
 use Rattle.hs_layout.specs.Written.{behind_all, IsInBraces, PutsNoLine}
 use Rattle.hs_layout.proofs.Balance.{OpensBlock, is_opened, opening_is, opener_is, started}
 
@@ -159,7 +159,8 @@ unfolding IsGood
 lexeme_good st t r h = (opener_is r, opened_flat r (see_top r (before st t r).frames) (see_flat r (before st t r).frames (before_flat st t r h.0 h.1)))
 
 after_good : (st : State) (t : Token) → IsGood st → IsGood (after st t)
-after_good st t h = part (is_pragma t.kind) st (state_behind st t (role_of t)) h (lexeme_good st t (role_of t) h)
+unfolding IsGood
+after_good st t h = part (is_pragma t.kind) (behind_pragma st t) (state_behind st t (role_of t)) h (lexeme_good st t (role_of t) h)
 
 all_good : (st : State) (ts : List Token) → IsGood st → IsGood (behind_all st ts)
 all_good st [] h = h

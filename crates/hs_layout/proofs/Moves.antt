@@ -23,7 +23,7 @@ use Rattle.hs_layout.specs.Roles.{role_of, is_branch}
 use Rattle.hs_layout.specs.Frames.{is_block, is_put}
 use Rattle.hs_layout.specs.Looks.{on_if, look_at, reaches_past, reaches}
 use Rattle.hs_layout.specs.Rules.{Step, stay, and_then, down_past, down_to, indentation, context_of, frame, with_notes, no_notes, see_top, counted, renewed, is_context, renew, is_level, punctuate, at_line, at_opening, pop, at_end_of, answered, at_answer, at_comma, at_where, without_let, is_direct, at_sign, at_bar, at_lexeme, add_note, opened, behind_lexeme}
-use Rattle.hs_layout.specs.Braced.{opening_at, at_mark, ends_in_semicolon, is_first_of_line, behind_semicolon, marked, before, opener, newlines, is_semicolon_role, put_token, spot_of, is_pragma, pieces, behind_token, state_behind, after, at_last, at_end, braced_from, start, braced}
+use Rattle.hs_layout.specs.Braced.{opening_at, at_mark, ends_in_semicolon, is_first_of_line, behind_semicolon, marked, before, opener, newlines, is_semicolon_role, put_token, spot_of, is_pragma, pieces, behind_token, state_behind, after, at_last, at_end, braced_from, start, braced, behind_pragma}
 use Rattle.hs_layout.specs.Columns.{IsInOrder, in_column, no_column}
 
 by_test : {P : Type 0} (b : Bool) → (b ≡ true → P) → (b ≡ false → P) → P
@@ -294,16 +294,16 @@ module _ (g : ℕ → ℕ) (k : IsInOrder g) where
   behind_state : (e : ℕ) (st : State) (t : Token) (r : Role) → state_behind (state e st) (in_column g t) r ≡ state (g t.at.col) (state_behind st t r)
   behind_state e st t r = ap (λ z. behind_token z (in_column g t) r) (frames_same e st t r) ∙ token_same t r (before st t r).frames
 
-  either_state : (b : Bool) (e c : ℕ) (x u v : State) → x ≡ state c v → (if b then state e u else x) ≡ state (if b then e else c) (if b then u else v)
-  either_state true e c x u v p = refl
-  either_state false e c x u v p = p
+  either_state : (b : Bool) (e : ℕ) (x y u v : State) → x ≡ state e u → y ≡ state e v → (if b then x else y) ≡ state e (if b then u else v)
+  either_state true e x y u v p q = p
+  either_state false e x y u v p q = q
 
-  next : ℕ → Token → ℕ
-  next e t = if is_pragma t.kind then e else g t.at.col
+  pragma_same : (e : ℕ) (st : State) (t : Token) → behind_pragma (state e st) (in_column g t) ≡ state (g t.at.col) (behind_pragma st t)
+  unfolding state
+  pragma_same e st t = refl
 
-  after_same : (e : ℕ) (st : State) (t : Token) → after (state e st) (in_column g t) ≡ state (next e t) (after st t)
-  unfolding next
-  after_same e st t = either_state (is_pragma t.kind) e (g t.at.col) (state_behind (state e st) (in_column g t) (role_of t)) st (state_behind st t (role_of t)) (behind_state e st t (role_of t))
+  after_same : (e : ℕ) (st : State) (t : Token) → after (state e st) (in_column g t) ≡ state (g t.at.col) (after st t)
+  after_same e st t = either_state (is_pragma t.kind) (g t.at.col) (behind_pragma (state e st) (in_column g t)) (state_behind (state e st) (in_column g t) (role_of t)) (behind_pragma st t) (state_behind st t (role_of t)) (pragma_same e st t) (behind_state e st t (role_of t))
 
   anywhere_append : (a b : List Token) → map no_column (a ++ b) ≡ map no_column a ++ map no_column b
   anywhere_append [] b = refl
@@ -336,7 +336,7 @@ module _ (g : ℕ → ℕ) (k : IsInOrder g) where
   unfolding state
   from_same e st [] = ap (λ z. map no_column (map (put_token (state e st).end) z)) (end_signs e st) ∙ put_same st.end.at.line e st.end.at.col st.end.byte (at_end st).puts
   from_same e st (t ∷ ts) =
-      anywhere_append (pieces (state e st) (in_column g t)) (braced_from (after (state e st) (in_column g t)) (map (in_column g) ts)) ∙ ap (λ z. z ++ map no_column (braced_from (after (state e st) (in_column g t)) (map (in_column g) ts))) (pieces_same e st t) ∙ ap (λ z. map no_column (pieces st t) ++ map no_column (braced_from z (map (in_column g) ts))) (after_same e st t) ∙ ap (λ z. map no_column (pieces st t) ++ z) (from_same (next e t) (after st t) ts) ∙ sym (anywhere_append (pieces st t) (braced_from (after st t) ts))
+      anywhere_append (pieces (state e st) (in_column g t)) (braced_from (after (state e st) (in_column g t)) (map (in_column g) ts)) ∙ ap (λ z. z ++ map no_column (braced_from (after (state e st) (in_column g t)) (map (in_column g) ts))) (pieces_same e st t) ∙ ap (λ z. map no_column (pieces st t) ++ map no_column (braced_from z (map (in_column g) ts))) (after_same e st t) ∙ ap (λ z. map no_column (pieces st t) ++ z) (from_same (g t.at.col) (after st t) ts) ∙ sym (anywhere_append (pieces st t) (braced_from (after st t) ts))
 
   start_same : state 1 start ≡ start
   unfolding state all one

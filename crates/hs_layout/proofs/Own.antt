@@ -1,5 +1,5 @@
 -- The tokens of a source stay.
-use Rattle.std.specs.Prelude.{map, if◌then◌else◌}
+use Rattle.std.specs.Prelude.{Option, Some, None, map, if◌then◌else◌}
 use Rattle.std.proofs.Common.{◌≡◌, Bool, true, false, List, [], ◌∷◌, ◌++◌, refl, ap, sym, ◌∙◌}
 use Rattle.hs_syntax.specs.declared.token.Token.{Token}
 use Rattle.hs_syntax.specs.declared.token.PutSign.{PutSign}
@@ -7,15 +7,15 @@ use Rattle.hs_layout.specs.declared.state.Spot.{Spot}
 use Rattle.hs_layout.specs.declared.state.State.{State}
 use Rattle.hs_layout.specs.Roles.{role_of}
 use Rattle.hs_layout.specs.Braced.{put_token, spot_of, is_pragma, before, pieces, after, at_end, braced_from, start, braced}
-use Rattle.hs_layout.specs.Source.{own, IsSource}
+use Rattle.hs_layout.specs.Source.{own, unless_put, IsSource}
 
-more : (b : Bool) (t : Token) (r s : List Token) → (if b then r else t ∷ r) ++ s ≡ (if b then r ++ s else t ∷ (r ++ s))
-more true t r s = refl
-more false t r s = refl
+more : (o : Option PutSign) (t : Token) (r s : List Token) → unless_put o t r ++ s ≡ unless_put o t (r ++ s)
+more None t r s = refl
+more (Some x) t r s = refl
 
 own_append : (a b : List Token) → own (a ++ b) ≡ own a ++ own b
 own_append [] b = refl
-own_append (t ∷ a) b = ap (λ z. if t.put then z else t ∷ z) (own_append a b) ∙ sym (more t.put t (own a) (own b))
+own_append (t ∷ a) b = ap (λ z. unless_put t.put t z) (own_append a b) ∙ sym (more t.put t (own a) (own b))
 
 own_puts : (s : Spot) (ss : List PutSign) → own (map (put_token s) ss) ≡ []
 own_puts s [] = refl
@@ -41,7 +41,7 @@ own_braced ts = own_from start ts
 
 pub own_source : (ts : List Token) → IsSource ts → own ts ≡ ts
 own_source [] h = refl
-own_source (t ∷ ts) h = ap (λ z. if z then own ts else t ∷ own ts) h.0 ∙ ap (λ z. t ∷ z) (own_source ts h.1)
+own_source (t ∷ ts) h = ap (λ z. unless_put z t (own ts)) h.0 ∙ ap (λ z. t ∷ z) (own_source ts h.1)
 
 pub source_stays : (ts : List Token) → IsSource ts → own (braced ts) ≡ ts
 source_stays ts h = own_braced ts ∙ own_source ts h

@@ -75,6 +75,10 @@ abbrev pub is_semicolon_role : Role → Bool
 is_semicolon_role role.Semicolon = true
 is_semicolon_role _ = false
 
+-- where the signs stand that are put at the end of the input, where this token is the last one: at its place and its end
+abbrev pub end_of : Token → Spot
+end_of t = record { at = t.at; byte = t.end }
+
 -- the state behind a lexeme, from the frames before it
 abbrev pub behind_token : List Frame → Token → Role → State
 behind_token fs t r = record {
@@ -83,7 +87,7 @@ behind_token fs t r = record {
   semicolon = is_semicolon_role r;
   line = t.at.line;
   breaks = newlines false t.text;
-  end = record { at = t.at; byte = t.end };
+  end = end_of t;
 }
 
 abbrev pub state_behind : State → Token → Role → State
@@ -91,12 +95,12 @@ state_behind st t r = behind_token (before st t r).frames t r
 
 -- a sign that is put
 abbrev pub put_token : Spot → PutSign → Token
-put_token spot s = record { kind = kind.Special; text = []; start = spot.byte; end = spot.byte; at = spot.at; put = true; sign = Some s }
+put_token spot s = record { kind = kind.Special; text = []; start = spot.byte; end = spot.byte; at = spot.at; put = Some s }
 
 abbrev pub spot_of : Token → Spot
 spot_of t = record { at = t.at; byte = t.start }
 
--- a pragma is no lexeme
+-- A pragma is passed on, and the rules pass over it; as any other token it is the last one where none follows.
 abbrev pub is_pragma : TokenKind → Bool
 is_pragma kind.Pragma = true
 is_pragma _ = false
@@ -104,8 +108,11 @@ is_pragma _ = false
 abbrev pub pieces : State → Token → List Token
 pieces st t = if is_pragma t.kind then t ∷ [] else map (put_token (spot_of t)) (before st t (role_of t)).puts ++ t ∷ []
 
+abbrev pub behind_pragma : State → Token → State
+behind_pragma st t = record st { end = end_of t }
+
 abbrev pub after : State → Token → State
-after st t = if is_pragma t.kind then st else state_behind st t (role_of t)
+after st t = if is_pragma t.kind then behind_pragma st t else state_behind st t (role_of t)
 
 -- the end of the input: {0} where a block is to open, and each block is closed
 abbrev pub at_last : Option Context → List Frame → Step

@@ -1,14 +1,11 @@
 -- What lexemes are to layout.
-use Rattle.std.specs.Prelude.{ℕ, nat_eq, Bool, true, false, List, codes, if◌then◌else◌}
-use Rattle.std.specs.Cmp.Lexicographic.{pointwise}
+use Rattle.std.specs.Prelude.{ℕ, Bool, true, false, List, codes, if◌then◌else◌}
+use Rattle.mk_base.specs.Texts.{same_text}
 use Rattle.hs_syntax.specs.declared.token.Token.{Token}
 use Rattle.hs_syntax.specs.declared.token.TokenKind.{TokenKind}
 use Rattle.hs_syntax.specs.declared.token.TokenKind.TheVariants as kind
 use Rattle.hs_layout.specs.declared.role.Role.{Role}
 use Rattle.hs_layout.specs.declared.role.Role.TheVariants as role
-
-abbrev pub same_text : List ℕ → List ℕ → Bool
-same_text a b = pointwise nat_eq a b
 
 abbrev pub other_word_role : List ℕ → Role
 other_word_role x =
@@ -38,7 +35,8 @@ operator_role x =
     else (if same_text x (codes "->") then role.Arrow
     else (if same_text x (codes "\\") then role.Lambda
     else (if same_text x (codes "::") then role.Typed
-    else role.Other))))
+    else (if same_text x (codes ":") then role.Operator
+    else role.Other)))))
 
 abbrev pub special_role : List ℕ → Role
 special_role x =

@@ -2,7 +2,7 @@
 ghost use Rattle.std.specs.Prelude.{◌≡◌, [], ◌∷◌, ◌++◌, map, false, IfOk, OnOk, nat_lt, ◌+◌};
 ghost use Rattle.hs_layout.specs.Follows.{Follows};
 ghost use Rattle.hs_layout.specs.Roles.{role_of};
-ghost use Rattle.hs_layout.specs.Braced.{bars_opening, opening_at, at_mark, is_semicolon, ends_in_semicolon, behind_semicolon, marked, before, opener, is_semicolon_role, behind_token, state_behind, spot_of, put_token, pieces, after, at_last, at_end, braced};
+ghost use Rattle.hs_layout.specs.Braced.{bars_opening, opening_at, at_mark, is_semicolon, ends_in_semicolon, behind_semicolon, marked, before, opener, is_semicolon_role, behind_token, behind_pragma, end_of, state_behind, spot_of, put_token, pieces, after, at_last, at_end, braced};
 
 use crate::frame::Context;
 use crate::frames::Frames;
@@ -144,8 +144,7 @@ fn put_token(alloc: Global, spot: Spot, sign: PutSign) -> Token
         start: spot.byte,
         end: spot.byte,
         at: spot.at,
-        put: true,
-        sign: Some(sign),
+        put: Some(sign),
     }
 }
 
@@ -193,6 +192,16 @@ fn before(
     at_lexeme(alloc, role, semicolon, column, &mut state.frames, signs)
 }
 
+/// Where the signs stand that are put at the end of the input, where this token is the last one.
+fn end_of(token: &Token) -> Spot
+    ensures { result ≡ end_of token.now }
+{
+    Spot {
+        at: token.at,
+        byte: token.end,
+    }
+}
+
 /// The state behind a lexeme.
 fn behind(alloc: Global, token: &Token, role: Role, state: &mut State) -> Result<(), NoMemory>
     ensures { OnOk result (state.new ≡ behind_token state.old.frames token.now role) }
@@ -202,10 +211,7 @@ fn behind(alloc: Global, token: &Token, role: Role, state: &mut State) -> Result
     state.semicolon = is_semicolon_role(role);
     state.line = token.at.line;
     state.breaks = newlines(token.text.as_slice());
-    state.end = Spot {
-        at: token.at,
-        byte: token.end,
-    };
+    state.end = end_of(token);
     Ok(())
 }
 
@@ -230,6 +236,20 @@ fn take_lexeme(
     behind(alloc, token, role, state)
 }
 
+/// A pragma, as it stands.
+fn take_pragma(
+    alloc: Global,
+    token: &Token,
+    state: &mut State,
+    out: &mut List<Token>,
+) -> Result<(), NoMemory>
+    ensures { OnOk result ((state.new ≡ behind_pragma state.old token.now) × (out.new ≡ out.old ++ token.now ∷ [])) }
+{
+    out.push(token.copy(alloc)?)?;
+    state.end = end_of(token);
+    Ok(())
+}
+
 /// Puts a token behind `out`: a pragma as it stands, and a lexeme with the signs before it. For who reads the lexemes
 /// of a source one after another: the state begins with that of `start`, and `finish` puts the signs at the end.
 pub fn take_token(
@@ -241,7 +261,7 @@ pub fn take_token(
     ensures { OnOk result ((state.new ≡ after state.old token.now) × (out.new ≡ out.old ++ pieces state.old token.now)) }
 {
     match token.kind {
-        TokenKind::Pragma => out.push(token.copy(alloc)?),
+        TokenKind::Pragma => take_pragma(alloc, token, state, out),
         _ => take_lexeme(alloc, token, state, out),
     }
 }
@@ -269,8 +289,8 @@ pub fn finish(alloc: Global, state: State, out: &mut List<Token>) -> Result<(), 
 /// The tokens with the braces and semicolons that stand for lines and indentation (Haskell 2010 Report, section 10.3).
 ///
 /// Lines and columns count from 1, bytes from 0. A sign that is put has kind Special and no text; it stands where the
-/// next lexeme begins, and at the end of the input where the last one ends. A pragma is passed on, and is no lexeme.
-/// Nothing is refused: a bracket or a word that nothing waits for closes nothing.
+/// next lexeme begins. At the end of the input it has the place of the last token, be that a pragma, and stands where
+/// that ends; where there is no token, at 1:1 and byte 0. A pragma is passed on as if it weren't there. Nothing is refused: a bracket or a word that nothing waits for closes nothing.
 pub fn braced(alloc: Global, tokens: &List<Token>) -> Result<List<Token>, NoMemory>
     ensures { IfOk result (λ r. r ≡ braced tokens.now) }
 {

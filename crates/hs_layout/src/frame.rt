@@ -164,12 +164,8 @@ fn lead_after(role: Role, lead: Lead) -> Lead
     ensures { result ≡ lead_after role lead }
 {
     match role {
-        Role::OpenParen => lead,
-        Role::CloseParen => lead,
-        Role::CloseBracket => lead,
-        Role::CloseBrace => lead,
-        Role::Variable => more_names(lead),
-        Role::Comma => more_names(lead),
+        Role::OpenParen | Role::CloseParen | Role::CloseBracket | Role::CloseBrace => lead,
+        Role::Variable | Role::Comma => more_names(lead),
         Role::Operator => other_lead(Lead::Operator, lead),
         Role::Fixity => other_lead(Lead::Fixity, lead),
         _ => other_lead(Lead::Other, lead),
@@ -186,36 +182,26 @@ pub fn see(role: Role, before: Seen) -> Seen
             lead,
             bar: true,
             guard: true,
-            body: before.body,
             bound: false,
-            plain: before.plain,
+            ..before
         },
         Role::Equals => Seen {
             lead,
-            bar: before.bar,
             guard: false,
             body: before.body || !before.bar,
             bound: true,
             plain: true,
+            ..before
         },
         Role::Arrow => Seen {
             lead,
-            bar: before.bar,
             guard: false,
             body: before.body || !before.bar,
-            bound: before.bound,
-            plain: before.plain,
+            ..before
         },
         Role::Lambda => not_plain(lead, before),
         Role::Typed => not_plain(lead, before),
-        _ => Seen {
-            lead,
-            bar: before.bar,
-            guard: before.guard,
-            body: before.body,
-            bound: before.bound,
-            plain: before.plain,
-        },
+        _ => Seen { lead, ..before },
     }
 }
 
@@ -225,11 +211,8 @@ fn not_plain(lead: Lead, before: Seen) -> Seen
 {
     Seen {
         lead,
-        bar: before.bar,
-        guard: before.guard,
-        body: before.body,
-        bound: before.bound,
         plain: false,
+        ..before
     }
 }
 

@@ -2,14 +2,12 @@
 #![tactic(auto)]
 
 pub mod braced;
-pub mod frame;
-pub mod frames;
+mod frame;
+mod frames;
 pub mod laws;
-pub mod look;
-pub mod notes;
-pub mod role;
-pub mod rules;
-pub mod stack;
+mod look;
+mod notes;
+mod role;
+mod rules;
+mod stack;
 pub mod state;
-#[cfg(test)]
-mod tests;

@@ -7,7 +7,8 @@ use hs_syntax::token::{Token, TokenKind};
 /// What a lexeme is to layout.
 ///
 /// Fixity is `infix`, `infixl` or `infixr`; Bar, Equals, Arrow, Lambda and Typed are the reserved operators
-/// `|`, `=`, `->`, `\` and `::`; Variable and Operator are identifiers of variables and symbol operators, also qualified.
+/// `|`, `=`, `->`, `\` and `::`; Variable and Operator are identifiers of variables and symbol operators, also qualified,
+/// and the reserved operator `:`, which is one too.
 #[derive(Clone, Copy, PartialEq, Eq)]
 pub enum Role {
     Module,
@@ -93,6 +94,7 @@ fn operator_role(text: &[u8]) -> Role
         b"->" => Role::Arrow,
         b"\\" => Role::Lambda,
         b"::" => Role::Typed,
+        b":" => Role::Operator,
         _ => Role::Other,
     }
 }
@@ -137,8 +139,7 @@ pub fn is_branch(role: Role) -> bool
     ensures { result ≡ is_branch role }
 {
     match role {
-        Role::Then => true,
-        Role::Else => true,
+        Role::Then | Role::Else => true,
         _ => false,
     }
 }

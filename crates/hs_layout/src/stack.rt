@@ -1,5 +1,5 @@
 //! A stack of anything.
-ghost use Rattle.std.specs.Prelude.{◌≡◌, ◌∷◌, [], OnOk, OnErr, MatchOption, IfNone, ◌+◌, drop, length};
+ghost use Rattle.std.specs.Prelude.{◌≡◌, ◌∷◌, [], OnOk, OnErr, MatchOption, IfNone, ◌+◌, drop};
 
 use mk_base::memory::NoMemory;
 use std::alloc::Global;
@@ -30,13 +30,6 @@ impl<T> Stack<T> {
         Stack {
             items: Vec::new(alloc),
         }
-    }
-
-    /// How many elements there are.
-    pub fn len(&self) -> usize
-        ensures { result ≡ length self.now }
-    {
-        self.items.len()
     }
 
     /// The element that stands `at` places below the nearest, and None where there is no such place.

@@ -28,7 +28,7 @@ pub struct State {
     pub line: u32,
     /// The line breaks in the last lexeme.
     pub breaks: usize,
-    /// The place of the last lexeme, and the byte behind it.
+    /// The place of the last token, be it a pragma, and the byte behind it.
     pub end: Spot,
 }
 

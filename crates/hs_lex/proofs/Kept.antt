@@ -10,7 +10,7 @@ use Rattle.hs_lex.specs.declared.item.Kind.{Kind}
 use Rattle.hs_lex.specs.declared.cursor.Cursor.{Cursor}
 use Rattle.hs_lex.specs.Lexemes.{is_nil}
 use Rattle.hs_lex.specs.Items.{NoItem}
-use Rattle.hs_lex.specs.Slow.{item_at, turn_over, Kept, put_first, keep_over, kept_from, lexemes_from, lexemes_of}
+use Rattle.hs_lex.specs.Slow.{item_at, turn_over, Lexed, put_first, keep_over, kept_from, lexemes_from, lexemes_of}
 use Rattle.hs_lex.specs.Tokens.{position, ahead, tokens_at, token_at, IsRead, IsStuck, start, IsNext, IsBlank, IsBadFrom, IsReached, IsWithin}
 use Rattle.hs_lex.proofs.Decided.{nil_decides}
 use Rattle.hs_lex.proofs.Dispatch.{end_none}
@@ -32,7 +32,7 @@ module _ (source : List ℕ) (c : Cursor) where
   stops true d n = ([], c, read_none source c, d.0 refl)
   stops false d n = ([], c, read_none source c, ((λ e. false≢true (d.1 e)), n, refl))
 
-  goes : (on : Cursor → Kept) (o : Option (Kind × List ℕ)) → Stands (ahead source c) o → ((d : Cursor) → length (ahead source d) < length (ahead source c) → Keeps source d (on d).0 (on d).1) → Keeps source c (keep_over source c on o).0 (keep_over source c on o).1
+  goes : (on : Cursor → Lexed) (o : Option (Kind × List ℕ)) → Stands (ahead source c) o → ((d : Cursor) → length (ahead source d) < length (ahead source c) → Keeps source d (on d).0 (on d).1) → Keeps source c (keep_over source c on o).0 (keep_over source c on o).1
   goes on (Some i) x each = over i.0 i.1 [] x (on (turn_over c i.0 i.1).to).0 (on (turn_over c i.0 i.1).to).1 (each (turn_over c i.0 i.1).to (shrinks source c i.0 i.1 x.0 x.1))
   goes on None n each = stops (is_nil (ahead source c)) (nil_decides (ahead source c)) n
 
@@ -58,7 +58,7 @@ keeps_one source c ts us (Some a) None x y =
     let s = same_read source c x.0 y.0 ts us x.1 y.1 x.2 x.3.1 y.2 (end_none _ y.3) in
     absurd (x.3.0 (ap (ahead source) s.1 ∙ y.3))
 
-pair : (x : Kept) (ts : List Token) (o : Option Pos) → (x.0 ≡ ts) × (x.1 ≡ o) → x ≡ (ts, o)
+pair : (x : Lexed) (ts : List Token) (o : Option Pos) → (x.0 ≡ ts) × (x.1 ≡ o) → x ≡ (ts, o)
 pair (us, p) ts o e = let a : us ≡ ts = e.0 in let b : p ≡ o = e.1 in cc
 
 keeps_next : (source : List ℕ) (c e : Cursor) (t : Token) (us : List Token) (o : Option Pos) → IsNext source c t e → Keeps source e us o → Keeps source c (t ∷ us) o
@@ -104,8 +104,8 @@ next_near source c e t r x =
     let w : IsWithin source x.1 = reached_within source x.1 (r.0 ++ x.0, r.1 ++ [], read_join source r.0 x.0 (start source) c x.1 r.1 [] r.2 x.3) in
     near_by source x.1 x.4.tokens.0.to t x.4.tokens.0.kind x.4.tokens.1 x.4.tokens.3 x.4.tokens.4.0 w
 
-keeps_by : (source : List ℕ) (c : Cursor) (r : Kept) (ts : List Token) (o : Option Pos) → r ≡ (ts, o) → Keeps source c r.0 r.1 → Keeps source c ts o
-keeps_by source c r ts o e h = subst (λ (z : Kept). Keeps source c z.0 z.1) e h
+keeps_by : (source : List ℕ) (c : Cursor) (r : Lexed) (ts : List Token) (o : Option Pos) → r ≡ (ts, o) → Keeps source c r.0 r.1 → Keeps source c ts o
+keeps_by source c r ts o e h = subst (λ (z : Lexed). Keeps source c z.0 z.1) e h
 
 -- The lexemes that are kept are those of the source, up to its first bad place where it has one.
 pub kept_exactly : (source : List ℕ) (ts : List Token) (o : Option Pos) → (lexemes_of source ≡ (ts, o) → Keeps source (start source) ts o) × (Keeps source (start source) ts o → lexemes_of source ≡ (ts, o))

@@ -72,6 +72,10 @@ keyword_names (d ∷ w) (c ∷ l) h e =
     let b : map to_ascii_lowercase l ≡ w = cc in
     ((letter_parts c (letter_class c d a p.0)).0, keyword_names w l p.1 b)
 
+pub language_names : (l : List ℕ) → IsKeyword (codes "language") l → AllIn part.Name l
+unfolding is_letters
+language_names l e = keyword_names (codes "language") l refl e
+
 keyword_ends : (d : ℕ) (w l r : List ℕ) → is_letters (d ∷ w) ≡ true → IsKeyword (d ∷ w) l → Ends part.White (l ++ r)
 unfolding is_letters
 keyword_ends d w [] r h e = cc
@@ -93,7 +97,7 @@ identifier_ends [] m h = absurd (⊎_elim (λ e. e) (λ e. e) h.0)
 identifier_ends (c ∷ n) m h = (letter_parts c h.0).1
 
 -- what begins with white space goes on with no name
-white_no_name : (c : ℕ) → in_part part.White c ≡ true → in_part part.Name c ≡ false
+pub white_no_name : (c : ℕ) → in_part part.White c ≡ true → in_part part.Name c ≡ false
 unfolding in_part
 white_no_name c h = by_class (class_of c) h
   where
@@ -112,7 +116,7 @@ white_ends : (v r : List ℕ) → AllIn part.White v → Ends part.Name r → En
 white_ends [] r h e = e
 white_ends (c ∷ v) r h e = white_no_name c h.0
 
-comma_name : in_part part.Name 44 ≡ false
+pub comma_name : in_part part.Name 44 ≡ false
 unfolding in_part class_of class_of_char
 comma_name = refl
 
@@ -120,7 +124,7 @@ comma_white : in_part part.White 44 ≡ false
 unfolding in_part class_of class_of_char
 comma_white = refl
 
-sign_name : in_part part.Name 35 ≡ false
+pub sign_name : in_part part.Name 35 ≡ false
 unfolding in_part class_of class_of_char
 sign_name = refl
 
@@ -128,7 +132,7 @@ sign_white : in_part part.White 35 ≡ false
 unfolding in_part class_of class_of_char
 sign_white = refl
 
-list_ends : (ns : List (List ℕ)) (m : List ℕ) → IsList ns m → Ends part.Name m
+pub list_ends : (ns : List (List ℕ)) (m : List ℕ) → IsList ns m → Ends part.Name m
 list_ends [] m h = subst (Ends part.Name) (sym h.1) (white_ends h.0 (codes "#-}") h.2 sign_name)
 list_ends (n ∷ ns) m h = subst (Ends part.Name) (sym h.3) (white_ends h.0 (44 ∷ (h.1 ++ (n ++ h.2))) h.4 comma_name)
 
@@ -235,7 +239,7 @@ white_class c h = by_class (class_of c) h
     by_class class.Tick h = absurd (false≢true h)
     by_class class.Other h = absurd (false≢true h)
 
-gap_ends : (w m : List ℕ) → IsGap w → Ends part.Name (w ++ m)
+pub gap_ends : (w m : List ℕ) → IsGap w → Ends part.Name (w ++ m)
 gap_ends [] m h = absurd h.0
 gap_ends (c ∷ w) m h = white_no_name c h.1.0
 

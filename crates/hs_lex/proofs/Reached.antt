@@ -45,7 +45,7 @@ one_list : (b : Bool) (l m : List ℕ) → 1 ≤ length l → 1 ≤ length m →
 one_list true l m p q = p
 one_list false l m p q = q
 
-some_bytes : (c : ℕ) → 1 ≤ length (encode_utf8 c)
+pub some_bytes : (c : ℕ) → 1 ≤ length (encode_utf8 c)
 unfolding encode_utf8
 some_bytes c =
     let four : List ℕ = (240 + c / 262144) ∷ (128 + (c / 4096) % 64) ∷ (128 + (c / 64) % 64) ∷ (128 + c % 64) ∷ [] in

@@ -68,26 +68,26 @@ unfoldable pub read_source : List ℕ → Result (List Token) Pos
 read_source source = read_from (suc (length (ahead source (start source)))) source (start source)
 
 -- The lexemes up to the end, or up to the first place at which none of the three begins, with that place.
-abbrev pub Kept : Type 0
-Kept = List Token × Option Pos
+abbrev pub Lexed : Type 0
+Lexed = List Token × Option Pos
 
-abbrev pub put_first : List Token → Kept → Kept
+abbrev pub put_first : List Token → Lexed → Lexed
 put_first us r = (us ++ r.0, r.1)
 
-abbrev pub keep_over : List ℕ → Cursor → (Cursor → Kept) → Option (Kind × List ℕ) → Kept
+abbrev pub keep_over : List ℕ → Cursor → (Cursor → Lexed) → Option (Kind × List ℕ) → Lexed
 keep_over source c on (Some i) = put_first (tokens_at source c (turn_over c i.0 i.1).kind (turn_over c i.0 i.1).to) (on (turn_over c i.0 i.1).to)
 keep_over source c on None = ([], if is_nil (ahead source c) then None else Some (position c.place))
 
 -- n bounds the number of items
-unfoldable pub kept_from : ℕ → List ℕ → Cursor → Kept
+unfoldable pub kept_from : ℕ → List ℕ → Cursor → Lexed
 kept_from zero source c = ([], Some (position c.place))
 kept_from (suc n) source c = keep_over source c (kept_from n source) (item_at (ahead source c))
 
 -- from a cursor on
-unfoldable pub lexemes_from : List ℕ → Cursor → Kept
+unfoldable pub lexemes_from : List ℕ → Cursor → Lexed
 lexemes_from source c = kept_from (suc (length (ahead source c))) source c
 
 -- The lexemes of a source; where it has a place at which neither white space nor a comment nor a lexeme begins, those
 -- before the first such place, and that place.
-abbrev pub lexemes_of : List ℕ → Kept
+abbrev pub lexemes_of : List ℕ → Lexed
 lexemes_of source = lexemes_from source (start source)

@@ -44,7 +44,7 @@ position p = record { line = p.line; col = p.column }
 
 -- the token of a kind between two cursors
 abbrev pub token_at : List ℕ → Cursor → TokenKind → Cursor → Token
-token_at source c kind d = record { kind = kind; text = take (d.at - c.at) (drop c.at source); start = c.at; end = d.at; at = position c.place; put = false; sign = None }
+token_at source c kind d = record { kind = kind; text = take (d.at - c.at) (drop c.at source); start = c.at; end = d.at; at = position c.place; put = None }
 
 abbrev pub tokens_at : List ℕ → Cursor → Option TokenKind → Cursor → List Token
 tokens_at source c None d = []

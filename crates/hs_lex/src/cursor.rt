@@ -161,12 +161,11 @@ pub fn token_at(
         start: from.at as u32,
         end: to.at as u32,
         at: position(from.place),
-        put: false,
-        sign: None,
+        put: None,
     })
 }
 
-/// Puts the token of a turn at the end, where it has one. After an error the tokens are as before.
+/// Puts the token of a turn at the end, where it has one.
 pub fn push_turn(
     alloc: Global,
     source: &[u8],

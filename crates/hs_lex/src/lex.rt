@@ -10,6 +10,7 @@ ghost use Rattle.hs_lex.specs.declared.cursor.Stage.{Stage};
 ghost use Rattle.hs_lex.specs.Items.{Is, IsItem, NoItem, Leads};
 ghost use Rattle.hs_lex.specs.Tokens.{Lexes, IsFirstBad, IsReached, IsNext, IsBlank, IsBadFrom, IsPlace, IsRead, IsStuck, IsToken, Tokens, ahead};
 ghost use Rattle.hs_lex.specs.Tokens as tokens;
+ghost use Rattle.hs_lex.specs.Answers.{IsAnswered, AnswersExclude};
 ghost use Rattle.hs_lex.specs.Deciding.{is, is_token};
 ghost use Rattle.hs_lex.specs.Slow.{item_at, lexemes_of, read_source};
 
@@ -110,6 +111,12 @@ pub fn next_token(alloc: Global, source: &[u8], at: usize) -> Result<Option<Toke
     }
 }
 
+/// Of what `next_token` may answer behind a cursor one holds, and no two hold together.
+pub fn next_token_answers_once()
+    ensures one { (source : List ℕ) (c : Cursor) → IsAnswered source c }
+    ensures apart { (source : List ℕ) (c : Cursor) → AnswersExclude source c }
+{}
+
 /// A source has one list of lexemes.
 pub fn lexemes_are_unique()
     ensures { (source : List ℕ) (ts us : List Token) → Lexes source ts → Lexes source us → ts ≡ us }
@@ -162,6 +169,6 @@ pub fn every_source_is_read()
 
 /// A name behind a blank, and a string that isn't closed, as the slow function reads them.
 pub fn short_sources_are_read()
-    ensures name { read_source (codes " x") ≡ Ok (record { kind = TokenKind.VarId; text = codes "x"; start = 1; end = 2; at = record { line = 1; col = 2 }; put = false; sign = None } ∷ []) }
+    ensures name { read_source (codes " x") ≡ Ok (record { kind = TokenKind.VarId; text = codes "x"; start = 1; end = 2; at = record { line = 1; col = 2 }; put = None } ∷ []) }
     ensures string { read_source (codes "a \"b") ≡ Err (record { line = 1; col = 3 }) }
 {}

@@ -3,6 +3,4 @@
 
 pub mod header;
 pub mod name_ref;
-#[cfg(test)]
-mod tests;
 pub mod token;

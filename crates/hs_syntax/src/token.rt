@@ -51,10 +51,8 @@ pub struct Token {
     pub end: u32,
     /// The line and the column of its first character.
     pub at: Pos,
-    /// Whether layout put it.
-    pub put: bool,
-    /// Which sign layout put; Some exactly where `put` is true.
-    pub sign: Option<PutSign>,
+    /// The sign that it is, where layout put it; None for a lexeme.
+    pub put: Option<PutSign>,
 }
 
 impl Plain for TokenKind {
@@ -84,8 +82,7 @@ impl Plain for Token {
             && self.start == other.start
             && self.end == other.end
             && self.at == other.at
-            && self.put == other.put
-            && self.sign.same(&other.sign)
+            && self.put.same(&other.put)
     }
 
     fn copy(&self, alloc: Global) -> Result<Token, NoMemory> {
@@ -97,48 +94,6 @@ impl Plain for Token {
             end: self.end,
             at: self.at,
             put: self.put,
-            sign: self.sign,
         })
-    }
-}
-
-#[cfg(test)]
-mod tests {
-    use super::*;
-
-    #[test]
-    fn tokens_are_copied_and_told_apart(rt: HostRuntime) {
-        let alloc = rt.alloc();
-        let Ok(text) = Text::from_slice(alloc, b"where") else {
-            assert!(rt; false);
-            return;
-        };
-        let at = Pos { line: 2, col: 5 };
-        let word = Token {
-            kind: TokenKind::Word,
-            text,
-            start: 12,
-            end: 17,
-            at,
-            put: false,
-            sign: None,
-        };
-        let sign = Token {
-            kind: TokenKind::Special,
-            text: Text::new(alloc),
-            start: 17,
-            end: 17,
-            at,
-            put: true,
-            sign: Some(PutSign::Open),
-        };
-        assert!(rt; !word.same(&sign));
-        match (word.copy(alloc), sign.copy(alloc)) {
-            (Ok(second), Ok(other)) => {
-                assert!(rt; second.same(&word));
-                assert!(rt; other.same(&sign));
-            }
-            _ => assert!(rt; false),
-        }
     }
 }

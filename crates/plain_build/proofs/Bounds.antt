@@ -99,7 +99,7 @@ count_of None = 1
 count_of (Some s) = 0
 
 abbrev pub count : Token → ℕ
-count t = count_of t.sign
+count t = count_of t.put
 
 abbrev pub lexemes : List Token → ℕ
 lexemes ts = sum_by count ts
@@ -128,7 +128,7 @@ count_one (Some s) = omega arith
 
 laid_one : (b : ℕ) (t : Token) → IsShortToken b t → AreLaid 1 b (t ∷ [])
 laid_one b t h =
-    let one : count t ≤ 1 = count_one t.sign in
+    let one : count t ≤ 1 = count_one t.put in
     let sum : lexemes (t ∷ []) ≡ count t + 0 = sum_by-cons count t [] in
     (omega arith, (h, tt))
 

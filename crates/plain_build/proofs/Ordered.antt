@@ -50,7 +50,7 @@ use Rattle.plain_build.specs.Ordered.{BuildsAreOrdered, HasOrdered}
 
 -- no sign is put
 abbrev AreUnsigned : List Token → Type 0
-AreUnsigned ts = AllByRecursion (λ (t : Token). t.sign ≡ None) ts
+AreUnsigned ts = AllByRecursion (λ (t : Token). t.put ≡ None) ts
 
 token_unsigned : (source : List ℕ) (c d : Cursor) (o : Option TokenKind) (us : List Token) → AreUnsigned us → AreUnsigned (tokens_at source c o d ++ us)
 token_unsigned source c d None us h = h
@@ -73,11 +73,11 @@ own_place : (s : Option PutSign) (at : Pos) (ps : List Pos) → s ≡ None → w
 own_place None at ps h = refl
 own_place (Some s) at ps h = absurd (let k : ⊥ = cc in k)
 
-one_piece : (b : Bool) (spot : Spot) (ss : List PutSign) (t : Token) (rest : List Token) → t.sign ≡ None
+one_piece : (b : Bool) (spot : Spot) (ss : List PutSign) (t : Token) (rest : List Token) → t.put ≡ None
     → lexeme_places ((if b then t ∷ [] else map (put_token spot) ss ++ t ∷ []) ++ rest) ≡ t.at ∷ lexeme_places rest
-one_piece true spot ss t rest h = own_place t.sign t.at (lexeme_places rest) h
+one_piece true spot ss t rest h = own_place t.put t.at (lexeme_places rest) h
 one_piece false spot ss t rest h =
-    ap lexeme_places (append_assoc (map (put_token spot) ss) (t ∷ []) rest) ∙ puts_none spot ss (t ∷ rest) ∙ own_place t.sign t.at (lexeme_places rest) h
+    ap lexeme_places (append_assoc (map (put_token spot) ss) (t ∷ []) rest) ∙ puts_none spot ss (t ∷ rest) ∙ own_place t.put t.at (lexeme_places rest) h
 
 braced_places : (ts : List Token) (st : State) → AreUnsigned ts → lexeme_places (braced_from st ts) ≡ map (λ (t : Token). t.at) ts
 braced_places [] st h = put_ends st.end (at_end st).puts

@@ -84,7 +84,7 @@ module _ (b : ℕ) (t : Token) (short : IsShortToken b t) where
 
   -- behind a name
   name_held : (k : ℕ) (c : Bool) (n : State) → c ≡ is_name t → (count t ≡ 1 → IsHeld b k n.written n.stage) → Holds b k (on c n)
-  name_held k true n e i = i (named_counts t.sign t.text (sym e))
+  name_held k true n e i = i (named_counts t.put t.text (sym e))
   name_held k false n e i = tt
 
   open_held : (k : ℕ) (s : State) (o : Option Bool) → IsSmall b k s.written → Holds b (k + count t) (at_open s o)
@@ -122,7 +122,7 @@ module _ (b : ℕ) (t : Token) (short : IsShortToken b t) where
   field_held : (k : ℕ) (s : State) (c : Bool) (d : DataItem) → c ≡ is_name t → IsHeld b k s.written (stage.Fields d)
       → Holds b (k + count t) (cond c (Some (at_stage s (stage.Fields (with_field d (word_of t))))) (behind_part (with_data s d) stage.Datas t))
   field_held k s true d e i =
-      let one : count t ≡ 1 = named_counts t.sign t.text (sym e) in
+      let one : count t ≡ 1 = named_counts t.put t.text (sym e) in
       let n : weight s.written + (2 + length d.fields) ≤ k = i.0 in
       let l : length (d.fields ++ word_of t ∷ []) ≡ length d.fields + 1 = length-append d.fields (word_of t ∷ []) in
       (omega arith, i.1, (i.2.0, i.2.1, all_last (IsShortWord b) d.fields (word_of t) i.2.2 short))
@@ -136,7 +136,7 @@ module _ (b : ℕ) (t : Token) (short : IsShortToken b t) where
   step_held k s stage.Start i = on_held (k + count t) (is_text (codes "module") t) (at_stage s stage.Name) (plain_held s.written k stage.Name refl tt (held_small k s.written stage.Start i))
   step_held k s stage.Name i = on_held (k + count t) (is_module t) (at_stage s stage.Where) (plain_held s.written k stage.Where refl tt (held_small k s.written stage.Name i))
   step_held k s stage.Where i = on_held (k + count t) (is_text (codes "where") t) (at_stage s stage.Open) (plain_held s.written k stage.Open refl tt (held_small k s.written stage.Where i))
-  step_held k s stage.Open i = open_held k s (opened t.sign t.kind t.text) (held_small k s.written stage.Open i)
+  step_held k s stage.Open i = open_held k s (opened t.put t.kind t.text) (held_small k s.written stage.Open i)
   step_held k s stage.Body i = first_held k s (held_small k s.written stage.Body i)
   step_held k s (stage.Import at) i = on_held (k + count t) (is_import t) (at_stage s (stage.Imported at)) (plain_held s.written k (stage.Imported at) refl tt (held_small k s.written (stage.Import at) i))
   step_held k s (stage.Imported at) i = part_held k s stage.Body refl tt (held_small k s.written (stage.Imported at) i)

@@ -14,7 +14,7 @@ use Rattle.plain_form.specs.declared.state.State.{State}
 use Rattle.plain_form.specs.Form.{first_place, read_from, without_pragmas}
 
 abbrev token_of : TokenKind → List ℕ → Option PutSign → Token
-token_of k text s = record { kind = k; text = text; start = 0; end = 0; at = first_place; put = false; sign = s }
+token_of k text s = record { kind = k; text = text; start = 0; end = 0; at = first_place; put = s }
 
 abbrev lexeme : List ℕ → Token
 lexeme text = token_of Special text None

@@ -23,7 +23,7 @@ leads_on s g b ts w h l = (at_stage s g, ap (λ c. on c (at_stage s g)) h, l)
 leads_text : (s : State) (g : Stage) (text : List ℕ) (t : Token) (ts : List Token) (w : Written) → Fits (Fixed text) t → Left s.put s.written g ts w → Leads (on (is_text text t) (at_stage s g)) ts w
 leads_text s g text t ts w h l = leads_on s g (is_text text t) ts w (fixed_is text t h) l
 
-leads_open : (s : State) (t : Token) (ts : List Token) (w : Written) → HeadLeft s.written [] (t ∷ ts) w → Leads (at_open s (opened t.sign t.kind t.text)) ts w
+leads_open : (s : State) (t : Token) (ts : List Token) (w : Written) → HeadLeft s.written [] (t ∷ ts) w → Leads (at_open s (opened t.put t.kind t.text)) ts w
 leads_open s t ts w (put, p, ps, a, f, i) = (record { stage = stage.Body; put = put; written = s.written }, ap (at_open s) (open_is put t f.0), (p, ps, a, f.1, i))
 
 -- a step that passes over a test that fails

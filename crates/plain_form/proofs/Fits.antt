@@ -39,10 +39,10 @@ not_of false h = refl
 
 -- What a test of a written lexeme says, and what one of a sign that layout put says.
 
-at_written : {A : Type 0} (f : Option PutSign → TokenKind → List ℕ → A) (t : Token) → t.sign ≡ None → f t.sign t.kind t.text ≡ f None t.kind t.text
+at_written : {A : Type 0} (f : Option PutSign → TokenKind → List ℕ → A) (t : Token) → t.put ≡ None → f t.put t.kind t.text ≡ f None t.kind t.text
 at_written f t h = ap (λ s. f s t.kind t.text) h
 
-at_put : {A : Type 0} (f : Option PutSign → TokenKind → List ℕ → A) (t : Token) (s : PutSign) → t.sign ≡ Some s → f t.sign t.kind t.text ≡ f (Some s) t.kind t.text
+at_put : {A : Type 0} (f : Option PutSign → TokenKind → List ℕ → A) (t : Token) (s : PutSign) → t.put ≡ Some s → f t.put t.kind t.text ≡ f (Some s) t.kind t.text
 at_put f t s h = ap (λ o. f o t.kind t.text) h
 
 written_of : (text : List ℕ) (k : TokenKind) (written : List ℕ) → is_written text k written ≡ true → (is_module_kind k ≡ false) × (written ≡ text)
@@ -64,7 +64,7 @@ lexeme_of text None k written h = let e : (is_module_kind k ≡ false) × (writt
 lexeme_of text (Some s) k written h = absurd (cc)
 
 pub fixed_of : (text : List ℕ) (t : Token) → is_text text t ≡ true → Fits (Fixed text) t
-fixed_of text t h = lexeme_of text t.sign t.kind t.text h
+fixed_of text t h = lexeme_of text t.put t.kind t.text h
 
 pub fixed_is : (text : List ℕ) (t : Token) → Fits (Fixed text) t → is_text text t ≡ true
 fixed_is text t h = at_written (is_lexeme text) t h.0 ∙ written_is text t.kind t.text h.1 h.2
@@ -79,9 +79,9 @@ word_of_name None written h = (refl, h)
 word_of_name (Some s) written h = absurd (cc)
 
 pub placed_of : (t : Token) → is_name t ≡ true → Fits (Placed (word_of t)) t × (is_con t.text ≡ true)
-placed_of t h = let f : (t.sign ≡ None) × (is_con t.text ≡ true) = word_of_name t.sign t.text h in ((f.0, refl), f.1)
+placed_of t h = let f : (t.put ≡ None) × (is_con t.text ≡ true) = word_of_name t.put t.text h in ((f.0, refl), f.1)
 
-pub name_is : (t : Token) → t.sign ≡ None → is_con t.text ≡ true → is_name t ≡ true
+pub name_is : (t : Token) → t.put ≡ None → is_con t.text ≡ true → is_name t ≡ true
 name_is t h i = ap (λ s. is_word s t.text) h ∙ i
 
 module_name_of : (s : Option PutSign) (k : TokenKind) → is_module_name s k ≡ true → (s ≡ None) × (is_module_kind k ≡ true)
@@ -89,7 +89,7 @@ module_name_of None k h = (refl, h)
 module_name_of (Some s) k h = absurd (cc)
 
 pub module_of : (t : Token) → is_module t ≡ true → Fits Module t
-module_of t h = module_name_of t.sign t.kind h
+module_of t h = module_name_of t.put t.kind h
 
 pub module_is : (t : Token) → Fits Module t → is_module t ≡ true
 module_is t h = ap (λ s. is_module_name s t.kind) h.0 ∙ h.1
@@ -119,11 +119,11 @@ open_cases None k written put h =
     let e : (is_written (codes "{") k written ≡ true) × (put ≡ false) = open_here (is_written (codes "{") k written) put h in
     let f : (is_module_kind k ≡ false) × (written ≡ codes "{") = written_of (codes "{") k written e.0 in inr ((refl, f.0, f.1), e.1)
 
-pub open_of : (put : Bool) (t : Token) → opened t.sign t.kind t.text ≡ Some put → Fits (Open put) t
-open_of true t h = elim (open_cases t.sign t.kind t.text true h) as (λ c. Fits (Open true) t) [ inl e ↦ e.0 | inr e ↦ absurd (let f : true ≡ false = e.1 in cc) ]
-open_of false t h = elim (open_cases t.sign t.kind t.text false h) as (λ c. Fits (Open false) t) [ inl e ↦ absurd (let f : false ≡ true = e.1 in cc) | inr e ↦ e.0 ]
+pub open_of : (put : Bool) (t : Token) → opened t.put t.kind t.text ≡ Some put → Fits (Open put) t
+open_of true t h = elim (open_cases t.put t.kind t.text true h) as (λ c. Fits (Open true) t) [ inl e ↦ e.0 | inr e ↦ absurd (let f : true ≡ false = e.1 in cc) ]
+open_of false t h = elim (open_cases t.put t.kind t.text false h) as (λ c. Fits (Open false) t) [ inl e ↦ absurd (let f : false ≡ true = e.1 in cc) | inr e ↦ e.0 ]
 
-pub open_is : (put : Bool) (t : Token) → Fits (Open put) t → opened t.sign t.kind t.text ≡ Some put
+pub open_is : (put : Bool) (t : Token) → Fits (Open put) t → opened t.put t.kind t.text ≡ Some put
 open_is true t h = at_put opened t sign.Open h
 open_is false t h = at_written opened t h.0 ∙ ap (λ b. cond b (Some false) None) (written_is (codes "{") t.kind t.text h.1 h.2)
 
@@ -145,11 +145,11 @@ close_written (Some sign.Semicolon) k written h = absurd (cc)
 close_written (Some sign.Close) k written h = absurd (cc)
 close_written None k written h = let e : (is_module_kind k ≡ false) × (written ≡ codes "}") = written_of (codes "}") k written h in (refl, e.0, e.1)
 
-pub close_of : (put : Bool) (t : Token) → is_closing put t.sign t.kind t.text ≡ true → Fits (Close put) t
-close_of true t h = close_put t.sign t.kind t.text h
-close_of false t h = close_written t.sign t.kind t.text h
+pub close_of : (put : Bool) (t : Token) → is_closing put t.put t.kind t.text ≡ true → Fits (Close put) t
+close_of true t h = close_put t.put t.kind t.text h
+close_of false t h = close_written t.put t.kind t.text h
 
-pub close_is : (put : Bool) (t : Token) → Fits (Close put) t → is_closing put t.sign t.kind t.text ≡ true
+pub close_is : (put : Bool) (t : Token) → Fits (Close put) t → is_closing put t.put t.kind t.text ≡ true
 close_is true t h = at_put (is_closing true) t sign.Close h
 close_is false t h = at_written (is_closing false) t h.0 ∙ written_is (codes "}") t.kind t.text h.1 h.2
 
@@ -177,7 +177,7 @@ next_cases (Some sign.Close) k written h = absurd (cc)
 next_cases None k written h = let e : (is_module_kind k ≡ false) × (written ≡ codes ";") = written_of (codes ";") k written h in inr (refl, e.0, e.1)
 
 pub next_of : (t : Token) → is_next t ≡ true → Fits Next t
-next_of t h = next_cases t.sign t.kind t.text h
+next_of t h = next_cases t.put t.kind t.text h
 
 pub next_is : (t : Token) → Fits Next t → is_next t ≡ true
 next_is t h = elim h as (λ c. is_next t ≡ true) [ inl e ↦ at_put is_semicolon t sign.Semicolon e | inr e ↦ at_written is_semicolon t e.0 ∙ written_is (codes ";") t.kind t.text e.1 e.2 ]
@@ -204,12 +204,12 @@ name_no_text text t h i =
     [ true ↦ λ e. let f : true ≡ false = sym h ∙ name_not text t (fixed_of text t e) i in cc | false ↦ λ e. e ] refl
 
 pub next_ends : (t : Token) → is_next t ≡ true → ends_part t ≡ true
-next_ends t h = ap (λ b. b || (is_closing true t.sign t.kind t.text || is_closing false t.sign t.kind t.text)) h
+next_ends t h = ap (λ b. b || (is_closing true t.put t.kind t.text || is_closing false t.put t.kind t.text)) h
 
 or_true : (a b : Bool) → b ≡ true → (a || b) ≡ true
 or_true true b h = refl
 or_true false b h = h
 
-pub close_ends : (put : Bool) (t : Token) → is_closing put t.sign t.kind t.text ≡ true → ends_part t ≡ true
-close_ends true t h = or_true (is_next t) _ (ap (λ b. b || is_closing false t.sign t.kind t.text) h)
-close_ends false t h = or_true (is_next t) _ (or_true (is_closing true t.sign t.kind t.text) _ h)
+pub close_ends : (put : Bool) (t : Token) → is_closing put t.put t.kind t.text ≡ true → ends_part t ≡ true
+close_ends true t h = or_true (is_next t) _ (ap (λ b. b || is_closing false t.put t.kind t.text) h)
+close_ends false t h = or_true (is_next t) _ (or_true (is_closing true t.put t.kind t.text) _ h)

@@ -45,20 +45,20 @@ behind_marked p [] [] f h = tt
 behind_marked p [] (t ∷ ts) f h = absurd f
 behind_marked p (m ∷ ms) [] f h = absurd f
 behind_marked p (Placed w ∷ ms) (t ∷ ts) f h = (
-  subst (IsBefore p) (place_of w t f.0) (behind_first p t.at t.sign (lexeme_places ts) f.0.0 h),
-  behind_marked p ms ts f.1 (behind_rest p t.at t.sign (lexeme_places ts) h),
+  subst (IsBefore p) (place_of w t f.0) (behind_first p t.at t.put (lexeme_places ts) f.0.0 h),
+  behind_marked p ms ts f.1 (behind_rest p t.at t.put (lexeme_places ts) h),
 )
-behind_marked p (m ∷ ms) (t ∷ ts) f h = behind_marked p ms ts f.1 (behind_rest p t.at t.sign (lexeme_places ts) h)
+behind_marked p (m ∷ ms) (t ∷ ts) f h = behind_marked p ms ts f.1 (behind_rest p t.at t.put (lexeme_places ts) h)
 
 marked_rise : (ms : List Mark) (ts : List Token) → AllFit ms ts → AreRising (lexeme_places ts) → AreRising (marked ms)
 marked_rise [] [] f h = tt
 marked_rise [] (t ∷ ts) f h = absurd f
 marked_rise (m ∷ ms) [] f h = absurd f
 marked_rise (Placed w ∷ ms) (t ∷ ts) f h = (
-  subst (λ p. AreBehind p (marked ms)) (place_of w t f.0) (behind_marked t.at ms ts f.1 (rising_first t.at t.sign (lexeme_places ts) f.0.0 h)),
-  marked_rise ms ts f.1 (rising_rest t.at t.sign (lexeme_places ts) h),
+  subst (λ p. AreBehind p (marked ms)) (place_of w t f.0) (behind_marked t.at ms ts f.1 (rising_first t.at t.put (lexeme_places ts) f.0.0 h)),
+  marked_rise ms ts f.1 (rising_rest t.at t.put (lexeme_places ts) h),
 )
-marked_rise (m ∷ ms) (t ∷ ts) f h = marked_rise ms ts f.1 (rising_rest t.at t.sign (lexeme_places ts) h)
+marked_rise (m ∷ ms) (t ∷ ts) f h = marked_rise ms ts f.1 (rising_rest t.at t.put (lexeme_places ts) h)
 
 marked-append : (ms ns : List Mark) → marked (ms ++ ns) ≡ marked ms ++ marked ns
 marked-append [] ns = refl
@@ -103,8 +103,8 @@ behind_kept p a None ps qs h f = (h.0, f h.1)
 behind_kept p a (Some s) ps qs h f = f h
 
 behind_piece : (b : Bool) (p : Pos) (t : Token) (ts us : List Token) → AreBehind p (lexeme_places (t ∷ ts)) → (AreBehind p (lexeme_places ts) → AreBehind p (lexeme_places us)) → AreBehind p (lexeme_places (cond (not b) (t ∷ us) us))
-behind_piece true p t ts us h f = f (behind_rest p t.at t.sign (lexeme_places ts) h)
-behind_piece false p t ts us h f = behind_kept p t.at t.sign (lexeme_places ts) (lexeme_places us) h f
+behind_piece true p t ts us h f = f (behind_rest p t.at t.put (lexeme_places ts) h)
+behind_piece false p t ts us h f = behind_kept p t.at t.put (lexeme_places ts) (lexeme_places us) h f
 
 behind_lexemes : (p : Pos) (ts : List Token) → AreBehind p (lexeme_places ts) → AreBehind p (lexeme_places (without_pragmas ts))
 behind_lexemes p [] h = tt
@@ -116,8 +116,8 @@ rising_kept a (Some s) ps qs h f g = g h
 
 rising_piece : (b : Bool) (t : Token) (ts us : List Token) → AreRising (lexeme_places (t ∷ ts)) → (AreBehind t.at (lexeme_places ts) → AreBehind t.at (lexeme_places us)) → (AreRising (lexeme_places ts) → AreRising (lexeme_places us))
     → AreRising (lexeme_places (cond (not b) (t ∷ us) us))
-rising_piece true t ts us h f g = g (rising_rest t.at t.sign (lexeme_places ts) h)
-rising_piece false t ts us h f g = rising_kept t.at t.sign (lexeme_places ts) (lexeme_places us) h f g
+rising_piece true t ts us h f g = g (rising_rest t.at t.put (lexeme_places ts) h)
+rising_piece false t ts us h f g = rising_kept t.at t.put (lexeme_places ts) (lexeme_places us) h f g
 
 rising_lexemes : (ts : List Token) → AreRising (lexeme_places ts) → AreRising (lexeme_places (without_pragmas ts))
 rising_lexemes [] h = tt

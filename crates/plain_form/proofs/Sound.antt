@@ -33,9 +33,9 @@ pub opened_to : (s n : State) (o : Option Bool) → at_open s o ≡ Some n → (
 opened_to s n (Some put) h = (put, refl, cc)
 opened_to s n None h = absurd (cc)
 
-sound_open : (s n : State) (t : Token) (ts : List Token) (w : Written) → at_open s (opened t.sign t.kind t.text) ≡ Some n → LeftOf n ts w → HeadLeft s.written [] (t ∷ ts) w
+sound_open : (s n : State) (t : Token) (ts : List Token) (w : Written) → at_open s (opened t.put t.kind t.text) ≡ Some n → LeftOf n ts w → HeadLeft s.written [] (t ∷ ts) w
 sound_open s n t ts w h l =
-    let e : (put : Bool) × (opened t.sign t.kind t.text ≡ Some put) × (record { stage = stage.Body; put = put; written = s.written } ≡ n) = opened_to s n (opened t.sign t.kind t.text) h in
+    let e : (put : Bool) × (opened t.put t.kind t.text ≡ Some put) × (record { stage = stage.Body; put = put; written = s.written } ≡ n) = opened_to s n (opened t.put t.kind t.text) h in
     let m : PartLeft true e.0 s.written ts w = moved (record { stage = stage.Body; put = e.0; written = s.written }) n ts w e.2 l in
     (e.0, m.0, m.1, m.2, (open_of e.0 t e.1, m.3), m.4)
 

@@ -100,7 +100,7 @@ follows_at s n stage.Name t e =
     moved stage.Name t (at_stage s stage.Where) n o.1 (none t (module_no_text word t (module_of t o.0)), refl)
 follows_at s n stage.Where t e = by_text stage.Where stage.Open s n (codes "where") t e refl refl refl (λ f. fixed_not (codes "where") word t f refl)
 follows_at s n stage.Open t e =
-    let o : (put : Bool) × (opened t.sign t.kind t.text ≡ Some put) × (record { stage = stage.Body; put = put; written = s.written } ≡ n) = opened_to s n (opened t.sign t.kind t.text) e in
+    let o : (put : Bool) × (opened t.put t.kind t.text ≡ Some put) × (record { stage = stage.Body; put = put; written = s.written } ≡ n) = opened_to s n (opened t.put t.kind t.text) e in
     moved stage.Open t (record { stage = stage.Body; put = o.0; written = s.written }) n o.2 (none t (open_no_text o.0 word t (open_of o.0 t o.1) refl), refl)
 follows_at s n stage.Body t e = by_part s n t e
 follows_at s n (stage.Import at) t e =

@@ -46,7 +46,7 @@ is_lexeme text None k written = is_written text k written
 is_lexeme text (Some s) k written = false
 
 abbrev pub is_text : List ℕ → Token → Bool
-is_text text t = is_lexeme text t.sign t.kind t.text
+is_text text t = is_lexeme text t.put t.kind t.text
 
 -- a name: a word of ASCII letters and digits that begins with a capital
 abbrev pub is_word : Option PutSign → List ℕ → Bool
@@ -54,7 +54,7 @@ is_word None written = is_con written
 is_word (Some s) written = false
 
 abbrev pub is_name : Token → Bool
-is_name t = is_word t.sign t.text
+is_name t = is_word t.put t.text
 
 -- a module's name
 abbrev pub is_module_name : Option PutSign → TokenKind → Bool
@@ -62,7 +62,7 @@ is_module_name None k = is_module_kind k
 is_module_name (Some s) k = false
 
 abbrev pub is_module : Token → Bool
-is_module t = is_module_name t.sign t.kind
+is_module t = is_module_name t.put t.kind
 
 -- the name of a module that may be imported: any but Prim
 abbrev pub is_import : Token → Bool
@@ -85,7 +85,7 @@ is_semicolon (Some s) k written = false
 is_semicolon None k written = is_written (codes ";") k written
 
 abbrev pub is_next : Token → Bool
-is_next t = is_semicolon t.sign t.kind t.text
+is_next t = is_semicolon t.put t.kind t.text
 
 abbrev pub word_of : Token → Word
 word_of t = record { text = t.text; at = t.at }
@@ -110,7 +110,7 @@ at_open s (Some put) = Some (record { stage = stage.Body; put = put; written = s
 at_open s None = None
 
 abbrev pub is_close : State → Token → Bool
-is_close s t = is_closing s.put t.sign t.kind t.text
+is_close s t = is_closing s.put t.put t.kind t.text
 
 -- behind a part: a semicolon and then a further part, or the end
 abbrev pub behind_part : State → Stage → Token → Option State
@@ -129,7 +129,7 @@ abbrev pub step_at : State → Stage → Token → Option State
 step_at s stage.Start t = on (is_text (codes "module") t) (at_stage s stage.Name)
 step_at s stage.Name t = on (is_module t) (at_stage s stage.Where)
 step_at s stage.Where t = on (is_text (codes "where") t) (at_stage s stage.Open)
-step_at s stage.Open t = at_open s (opened t.sign t.kind t.text)
+step_at s stage.Open t = at_open s (opened t.put t.kind t.text)
 step_at s stage.Body t = at_part s t
 step_at s (stage.Import at) t = on (is_import t) (at_stage s (stage.Imported at))
 step_at s (stage.Imported at) t = behind_part s stage.Body t
@@ -184,20 +184,20 @@ pub data Mark : Type 0 where
 
 -- a written lexeme of this text, and no module's name
 abbrev pub IsWritten : List ℕ → Token → Type 0
-IsWritten text t = (t.sign ≡ None) × (is_module_kind t.kind ≡ false) × (t.text ≡ text)
+IsWritten text t = (t.put ≡ None) × (is_module_kind t.kind ≡ false) × (t.text ≡ text)
 
 abbrev pub IsModule : Token → Type 0
-IsModule t = (t.sign ≡ None) × (is_module_kind t.kind ≡ true)
+IsModule t = (t.put ≡ None) × (is_module_kind t.kind ≡ true)
 
 abbrev pub Fits : Mark → Token → Type 0
 Fits (Fixed text) t = IsWritten text t
 Fits Module t = IsModule t
 Fits Imported t = IsModule t × (t.text ≡ codes "Prim" → ⊥)
-Fits (Placed w) t = (t.sign ≡ None) × (word_of t ≡ w)
-Fits (Open true) t = t.sign ≡ Some sign.Open
+Fits (Placed w) t = (t.put ≡ None) × (word_of t ≡ w)
+Fits (Open true) t = t.put ≡ Some sign.Open
 Fits (Open false) t = IsWritten (codes "{") t
-Fits Next t = (t.sign ≡ Some sign.Semicolon) ⊎ IsWritten (codes ";") t
-Fits (Close true) t = t.sign ≡ Some sign.Close
+Fits Next t = (t.put ≡ Some sign.Semicolon) ⊎ IsWritten (codes ";") t
+Fits (Close true) t = t.put ≡ Some sign.Close
 Fits (Close false) t = IsWritten (codes "}") t
 
 abbrev pub AllFit : List Mark → List Token → Type 0
@@ -258,7 +258,7 @@ last_place p (t ∷ ts) = last_place t.at ts
 
 -- a semicolon or a closing brace
 abbrev pub ends_part : Token → Bool
-ends_part t = is_next t || (is_closing true t.sign t.kind t.text || is_closing false t.sign t.kind t.text)
+ends_part t = is_next t || (is_closing true t.put t.kind t.text || is_closing false t.put t.kind t.text)
 
 -- the import that stands open behind a token, by the place of its `import`, where this one stands open before it
 abbrev pub import_behind : Option Pos → Token → Option Pos
@@ -305,7 +305,7 @@ written_at (Some s) at = []
 
 -- the places of the lexemes among the tokens
 abbrev pub lexeme_places : List Token → List Pos
-lexeme_places ts = flat_map (λ (t : Token). written_at t.sign t.at) ts
+lexeme_places ts = flat_map (λ (t : Token). written_at t.put t.at) ts
 
 -- Where the lexemes rise, so do the names of the module.
 abbrev pub WordsRise : Type 0

@@ -98,7 +98,7 @@ fn at_text(token: &Token, text: &[u8], stage: Stage, put: bool, written: Written
 
 /// Behind `where`: an opening brace.
 fn at_open(written: Written, token: &Token) -> Option<State>
-    ensures { result ≡ spec.at_open (reading false written) (spec.opened token.now.sign token.now.kind token.now.text) }
+    ensures { result ≡ spec.at_open (reading false written) (spec.opened token.now.put token.now.kind token.now.text) }
 {
     match opened(token) {
         Some(put) => Some(State {

@@ -129,8 +129,7 @@ fn token_at(alloc: Global, word: &[u8], col: u32) -> Result<Token, NoMemory> {
         start: col,
         end: col,
         at: Pos { line: 1, col },
-        put: sign.is_some(),
-        sign,
+        put: sign,
     })
 }
 

@@ -40,7 +40,7 @@ fn is_written(text: &[u8], kind: TokenKind, written: &[u8]) -> bool
 pub fn is_text(token: &Token, text: &[u8]) -> bool
     ensures { result ≡ spec.is_text text.now token.now }
 {
-    match token.sign {
+    match token.put {
         None => is_written(text, token.kind, token.text.as_slice()),
         Some(_) => false,
     }
@@ -50,7 +50,7 @@ pub fn is_text(token: &Token, text: &[u8]) -> bool
 pub fn is_name(token: &Token) -> bool
     ensures { result ≡ spec.is_name token.now }
 {
-    match token.sign {
+    match token.put {
         None => is_con(token.text.as_slice()),
         Some(_) => false,
     }
@@ -60,7 +60,7 @@ pub fn is_name(token: &Token) -> bool
 pub fn is_module(token: &Token) -> bool
     ensures { result ≡ spec.is_module token.now }
 {
-    match token.sign {
+    match token.put {
         None => is_module_kind(token.kind),
         Some(_) => false,
     }
@@ -75,9 +75,9 @@ pub fn is_import(token: &Token) -> bool
 
 /// Whether layout put a token that is an opening brace; None where the token is none.
 pub fn opened(token: &Token) -> Option<bool>
-    ensures { result ≡ spec.opened token.now.sign token.now.kind token.now.text }
+    ensures { result ≡ spec.opened token.now.put token.now.kind token.now.text }
 {
-    match token.sign {
+    match token.put {
         Some(PutSign::Open) => Some(true),
         Some(PutSign::Semicolon) => None,
         Some(PutSign::Close) => None,
@@ -93,9 +93,9 @@ pub fn opened(token: &Token) -> Option<bool>
 
 /// Whether a token closes a brace that layout put, or one that was written.
 pub fn is_closing(put: bool, token: &Token) -> bool
-    ensures { result ≡ spec.is_closing put token.now.sign token.now.kind token.now.text }
+    ensures { result ≡ spec.is_closing put token.now.put token.now.kind token.now.text }
 {
-    match token.sign {
+    match token.put {
         Some(PutSign::Open) => false,
         Some(PutSign::Semicolon) => false,
         Some(PutSign::Close) => put,
@@ -107,7 +107,7 @@ pub fn is_closing(put: bool, token: &Token) -> bool
 pub fn is_next(token: &Token) -> bool
     ensures { result ≡ spec.is_next token.now }
 {
-    match token.sign {
+    match token.put {
         Some(PutSign::Open) => false,
         Some(PutSign::Semicolon) => true,
         Some(PutSign::Close) => false,
