@@ -29,7 +29,7 @@ use Rattle.plain_scope.specs.declared.scope.Content.{Content}
 use Rattle.plain_scope.specs.declared.scope.Checked.{Checked as CheckedModule}
 use Rattle.plain_scope.specs.declared.scope.Checked.TheVariants as checked
 use Rattle.plain_scope.specs.Scope.{check_of, contents_at, one_at}
-use Rattle.plain_face.specs.Interface.{IsSound, Fits}
+use Rattle.plain_scope.specs.Offered.{IsSound, Fits}
 use Rattle.plain_build.specs.declared.done.Done.{Done}
 use Rattle.plain_build.specs.declared.reading.SourceReading.{SourceReading}
 use Rattle.plain_build.specs.declared.reading.SourceReading.TheVariants.{Whole, Refused}

@@ -4,7 +4,7 @@ use Rattle.mk_base.specs.declared.name.Node.{Node}
 use Rattle.plain_scope.specs.declared.scope.Content.{Content}
 use Rattle.plain_scope.specs.declared.scope.Checked.TheVariants.{Sound, Wrong}
 use Rattle.plain_scope.specs.Scope.{contents_at}
-use Rattle.plain_face.specs.Interface.{IsSound, Fits}
+use Rattle.plain_scope.specs.Offered.{IsSound, Fits}
 use Rattle.plain_build.specs.Plain.{PlainTree, imports_of, input_of}
 use Rattle.plain_build.specs.Plain as spec
 use Rattle.plain_build.specs.Result.{is_checked}

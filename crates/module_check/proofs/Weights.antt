@@ -12,7 +12,6 @@ use Rattle.hs_syntax.specs.declared.token.Token.{Token}
 use Rattle.hs_syntax.specs.declared.token.PutSign.{PutSign}
 use Rattle.hs_lex.specs.Slow.{read_source}
 use Rattle.hs_layout.specs.Braced.{braced}
-use Rattle.mod_graph.specs.Prelude as first
 use Rattle.plain_form.specs.declared.form.Word.{Word}
 use Rattle.plain_form.specs.declared.form.DataItem.{DataItem}
 use Rattle.plain_form.specs.declared.form.Written.{Written}
@@ -21,11 +20,10 @@ use Rattle.plain_form.specs.declared.state.Stage.{Stage}
 use Rattle.plain_form.specs.declared.state.Stage.TheVariants as stage
 use Rattle.plain_form.specs.declared.state.State.{State}
 use Rattle.plain_form.specs.Form.{first_place, is_pragma, without_pragmas, is_text, is_word, is_name, is_module, is_import, opened, is_next, word_of, at_stage, with_data, with_field, on, at_open, is_close, behind_part, at_data, at_part, step_at, step, told, ended, go, read_from, start, read_form}
-use Rattle.plain_build.specs.declared.reading.SourceReading.{SourceReading}
-use Rattle.plain_build.specs.declared.reading.SourceReading.TheVariants.{Whole, Refused}
-use Rattle.plain_build.specs.Plain.{unbuilt, formed, by_tokens, reading}
-use Rattle.plain_build.proofs.Bounds.{IsShortToken, count_of, count, lexemes, AreFew, lexemes_few, laid_out}
-use Rattle.plain_build.proofs.Alls.{all_last}
+use Rattle.unbuilt_forms.specs.Unbuilt.{unbuilt, formed}
+use Rattle.module_check.specs.Check.{of_lexemes, items_of}
+use Rattle.module_check.proofs.Bounds.{IsShortToken, count_of, count, lexemes, AreFew, lexemes_few, laid_out}
+use Rattle.module_check.proofs.Alls.{all_last}
 
 abbrev pub fields_in : List DataItem → ℕ
 fields_in ds = sum_by (λ (d : DataItem). length d.fields) ds
@@ -152,9 +150,9 @@ module _ (b : ℕ) (t : Token) (short : IsShortToken b t) where
   step_held k s (stage.Fields d) i = field_held k s (is_name t) d refl i
   step_held k s stage.End i = tt
 
-abbrev pub AreSmall : ℕ → ℕ → SourceReading → Type 0
-AreSmall b k (Whole w) = IsSmall b k w
-AreSmall b k (Refused d) = Unit {0}
+abbrev pub AreSmall : ℕ → ℕ → Result Written Diag → Type 0
+AreSmall b k (Ok w) = IsSmall b k w
+AreSmall b k (Err d) = Unit {0}
 
 ended_small : (b k : ℕ) (s : State) (g : Stage) (last : Pos) → IsHeld b k s.written g → AreSmall b k (formed (ended s g last))
 ended_small b k s stage.End last i = let n : weight s.written + 0 ≤ k = i.0 in (omega arith, i.1)
@@ -202,21 +200,21 @@ short_lexemes : (b : ℕ) (ts : List Token) → AllByRecursion (IsShortToken b) 
 short_lexemes b [] h = tt
 short_lexemes b (t ∷ ts) h = short_by b (is_pragma t.kind) t (without_pragmas ts) h.0 (short_lexemes b ts h.1)
 
-refused_small : (b k : ℕ) (c : Bool) (d : Diag) (r : SourceReading) → AreSmall b k r → AreSmall b k (cond c (Refused d) r)
+refused_small : (b k : ℕ) (c : Bool) (d : Diag) (r : Result Written Diag) → AreSmall b k r → AreSmall b k (cond c (Err d) r)
 refused_small b k true d r h = tt
 refused_small b k false d r h = h
 
-tokens_small : (b k : ℕ) (n : Node) (ts : List Token) → length ts ≤ k → AllByRecursion (IsShortToken b) ts → AreSmall b k (by_tokens n (Ok ts))
+tokens_small : (b k : ℕ) (n : Node) (ts : List Token) → length ts ≤ k → AllByRecursion (IsShortToken b) ts → AreSmall b k (of_lexemes n (Ok ts))
 tokens_small b k n ts few short =
     let laid = laid_out b ts short in
     let l : lexemes (braced ts) ≤ length ts = laid.0 in
     let fewer : lexemes (without_pragmas (braced ts)) ≤ lexemes (braced ts) = fewer_lexemes (braced ts) in
-    refused_small b k n.boot (unbuilt first.first_place) (formed (read_form (braced ts)))
+    refused_small b k n.boot (unbuilt first_place) (formed (read_form (braced ts)))
     (from_small b (without_pragmas (braced ts)) 0 k start first_place (omega arith) (short_lexemes b (braced ts) laid.1) (omega arith, tt, tt))
 
-lexed_small : (b : ℕ) (n : Node) (o : Result (List Token) Pos) → AreFew (suc b) b o → AreSmall b b (by_tokens n o)
+lexed_small : (b : ℕ) (n : Node) (o : Result (List Token) Pos) → AreFew (suc b) b o → AreSmall b b (of_lexemes n o)
 lexed_small b n (Ok ts) h = let few : length ts < suc b = h.0 in tokens_small b b n ts (omega arith) h.1
 lexed_small b n (Err at) h = tt
 
-pub reading_small : (n : Node) (source : List ℕ) → AreSmall (length source) (length source) (reading n source)
-reading_small n source = lexed_small (length source) n (read_source source) (lexemes_few source)
+pub items_small : (n : Node) (source : List ℕ) → AreSmall (length source) (length source) (items_of n source)
+items_small n source = lexed_small (length source) n (read_source source) (lexemes_few source)

@@ -20,7 +20,7 @@ use Rattle.hs_layout.specs.declared.state.Spot.{Spot}
 use Rattle.hs_layout.specs.declared.state.State.{State as LayoutState}
 use Rattle.hs_layout.specs.Roles.{role_of}
 use Rattle.hs_layout.specs.Braced.{put_token, spot_of, is_pragma, before, pieces, after, at_end, braced_from, braced, start as layout_start}
-use Rattle.plain_build.proofs.Alls.{all_join}
+use Rattle.module_check.proofs.Alls.{all_join}
 
 -- lexemes of a source
 past_short : (bs : List ℕ) (n : ℕ) → length (past n bs) ≤ length bs

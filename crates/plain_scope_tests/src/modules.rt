@@ -2,7 +2,7 @@
 ghost use Rattle.std.specs.Prelude.{◌<◌, IfOk};
 ghost use Rattle.std.specs.List.{AllByRecursion};
 
-use crate::scope::{Checked, Content, DataDecl, check, diagnostics_are_ordered};
+use plain_scope::scope::{Checked, Content, DataDecl, check, diagnostics_are_ordered};
 use mk_base::diag::Diag;
 use mk_base::list::List;
 use mk_base::memory::NoMemory;

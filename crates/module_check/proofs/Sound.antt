@@ -17,9 +17,9 @@ use Rattle.plain_scope.specs.declared.scope.DataDecl.{DataDecl}
 use Rattle.plain_scope.specs.declared.scope.Content.{Content}
 use Rattle.plain_scope.specs.declared.scope.Checked.TheVariants.{Sound}
 use Rattle.plain_scope.specs.Scope.{same_space, exports_of, brought, heads, content_heads, scope, referred, same_entity, Pair, Use, Missing, Ambiguous, Found, use_of, use_at, twice_diags, field_diags, data_diags, datas_diags, scope_diags, found_names, resolved, content_of, with_diags, check_of, diag_at}
-use Rattle.plain_face.specs.Interface.{AreBefore, names_in, IsSound, Fits}
-use Rattle.plain_build.proofs.Weights.{IsShortWord, IsShortItem, IsSmall, fields_in}
-use Rattle.plain_build.proofs.Alls.{all_join}
+use Rattle.plain_scope.specs.Offered.{AreBefore, names_in, IsSound, Fits}
+use Rattle.module_check.proofs.Weights.{IsShortWord, IsShortItem, IsSmall, fields_in}
+use Rattle.module_check.proofs.Alls.{all_join}
 
 with_no_diags : (c d : Content) (ds : List Diag) → with_diags c ds ≡ Sound d → (ds ≡ []) × (d ≡ c)
 with_no_diags c d [] e = (refl, (let h : d ≡ c = cc in h))
