@@ -1,8 +1,10 @@
 -- How names and nodes are ordered.
-use Rattle.std.specs.Prelude.{ℕ, List, Bool, cond}
+use Rattle.std.specs.Prelude.{◌≡◌, ℕ, List, [], ◌∷◌, Bool, cond}
+use Rattle.std.specs.List.{AllByRecursion}
 use Rattle.std.specs.Ordering.{nat_cmp, ordering_then}
 use Rattle.std.specs.Cmp.Lexicographic.{slice_cmp}
 use Rattle.std.specs.declared.cmp.Ordering.{Ordering}
+use Rattle.std.specs.declared.cmp.Ordering.TheVariants.{Less}
 use Rattle.mk_base.specs.declared.name.Space.{Space}
 use Rattle.mk_base.specs.declared.name.Space.TheVariants.{Var, Con, Ty}
 use Rattle.mk_base.specs.declared.name.Name.{Name}
@@ -41,3 +43,8 @@ pos_cmp a b = ordering_then (nat_cmp a.line b.line) (nat_cmp a.col b.col)
 -- by place, then by number, then by the bytes of the text
 abbrev pub diag_cmp : Diag → Diag → Ordering
 diag_cmp a b = ordering_then (pos_cmp a.at b.at) (ordering_then (nat_cmp a.code b.code) (text_cmp a.text b.text))
+
+-- each diagnostic stands before all that are behind it
+abbrev pub AreInOrder : List Diag → Type 0
+AreInOrder [] = Unit {0}
+AreInOrder (d ∷ ds) = AllByRecursion (λ (e : Diag). diag_cmp d e ≡ Less) ds × AreInOrder ds

@@ -1,5 +1,5 @@
 //! Kinds.
-ghost use Rattle.std.specs.Prelude.{◌≡◌, ◌↔◌, ◌++◌, IsTrue, IfOk, OnOk};
+ghost use Rattle.std.specs.Prelude.{◌≡◌, ◌↔◌, ◌++◌, ℕ, List as Row, IsTrue, IfOk, OnOk, OnErr};
 ghost use Rattle.mk_base.specs.Kinds.{kind_text};
 
 use crate::list::List;
@@ -41,17 +41,32 @@ pub fn copy_kind(alloc: Global, kind: &Kind) -> Result<Kind, NoMemory>
     }
 }
 
-/// Puts the text of a kind behind `out`: `*` and `->`, with every arrow in parentheses.
+/// Puts the text of a kind behind `out`: `*` and `->`, with every arrow in parentheses. At want of memory `out` is as
+/// before.
 pub fn print_kind(out: &mut List<u8>, kind: &Kind) -> Result<(), NoMemory>
-    ensures { OnOk result (out.new ≡ out.old ++ kind_text kind.now) }
+    ensures ok { OnOk result (out.new ≡ out.old ++ kind_text kind.now) }
+    ensures err { OnErr result (out.new ≡ out.old) }
+{
+    let before = out.len();
+    let result = put_kind(out, kind);
+    if result.is_err() {
+        out.truncate(before);
+    }
+    result
+}
+
+/// Puts the text of a kind behind `out`, or at want of memory a beginning of it.
+fn put_kind(out: &mut List<u8>, kind: &Kind) -> Result<(), NoMemory>
+    ensures ok { OnOk result (out.new ≡ out.old ++ kind_text kind.now) }
+    ensures err { OnErr result ((more : Row ℕ) × (out.new ≡ out.old ++ more)) }
 {
     match kind {
         Kind::Star => out.push(b'*')?,
         Kind::Arrow(f, x) => {
             out.push(b'(')?;
-            print_kind(out, f.get())?;
+            put_kind(out, f.get())?;
             out.extend(b" -> ")?;
-            print_kind(out, x.get())?;
+            put_kind(out, x.get())?;
             out.push(b')')?;
         }
     }

@@ -9,13 +9,9 @@ pub mod list;
 pub mod memory;
 pub mod name;
 pub mod path;
-#[cfg(test)]
-mod path_tests;
 pub mod place;
 pub mod plain;
 pub mod status;
 pub mod steps;
-#[cfg(test)]
-mod tests;
 pub mod text;
 pub mod ty;

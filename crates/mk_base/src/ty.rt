@@ -1,5 +1,5 @@
 //! Types.
-ghost use Rattle.std.specs.Prelude.{◌≡◌, ◌↔◌, ◌++◌, ◌≤◌, ◌<◌, IsTrue, IfOk, OnOk, IfSome, IfNone};
+ghost use Rattle.std.specs.Prelude.{◌≡◌, ◌↔◌, ◌++◌, ◌≤◌, ◌<◌, ℕ, List as Row, IsTrue, IfOk, OnOk, OnErr, IfSome, IfNone};
 ghost use Rattle.mk_base.specs.Types.{ty_text, levels_of};
 
 use crate::list::List;
@@ -44,9 +44,23 @@ pub fn copy_ty(alloc: Global, ty: &Ty) -> Result<Ty, NoMemory>
 }
 
 /// Puts the text of a type behind `out`: a variable as `t` and its number, a constructor as `MODULE.OCC`,
-/// and every application in parentheses.
+/// and every application in parentheses. At want of memory `out` is as before.
 pub fn print_ty(out: &mut List<u8>, ty: &Ty) -> Result<(), NoMemory>
-    ensures { OnOk result (out.new ≡ out.old ++ ty_text ty.now) }
+    ensures ok { OnOk result (out.new ≡ out.old ++ ty_text ty.now) }
+    ensures err { OnErr result (out.new ≡ out.old) }
+{
+    let before = out.len();
+    let result = put_ty(out, ty);
+    if result.is_err() {
+        out.truncate(before);
+    }
+    result
+}
+
+/// Puts the text of a type behind `out`, or at want of memory a beginning of it.
+fn put_ty(out: &mut List<u8>, ty: &Ty) -> Result<(), NoMemory>
+    ensures ok { OnOk result (out.new ≡ out.old ++ ty_text ty.now) }
+    ensures err { OnErr result ((more : Row ℕ) × (out.new ≡ out.old ++ more)) }
 {
     match ty {
         Ty::Var(n) => {
@@ -60,9 +74,9 @@ pub fn print_ty(out: &mut List<u8>, ty: &Ty) -> Result<(), NoMemory>
         }
         Ty::App(f, x) => {
             out.push(b'(')?;
-            print_ty(out, f.get())?;
+            put_ty(out, f.get())?;
             out.push(b' ')?;
-            print_ty(out, x.get())?;
+            put_ty(out, x.get())?;
             out.push(b')')?;
         }
     }

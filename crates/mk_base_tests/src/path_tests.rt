@@ -1,11 +1,11 @@
 //! Paths with their nodes, and nodes with the names of their interfaces, worked out by hand.
-use crate::memory::NoMemory;
-use crate::name::{ModName, Node, same_node};
-use crate::path::{
+use mk_base::memory::NoMemory;
+use mk_base::name::{ModName, Node, same_node};
+use mk_base::path::{
     iface_name, iface_names_differ, node_of_path, path_of, paths_are_their_spelling,
     paths_read_as_their_nodes,
 };
-use crate::text::Text;
+use mk_base::text::Text;
 use std::alloc::Global;
 use std::test::Fail;
 

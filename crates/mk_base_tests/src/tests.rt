@@ -1,17 +1,17 @@
 //! What no clause says: that calls succeed with ample memory, and what is printed.
-use crate::char_class::{CharClass, class_of};
-use crate::diag::{Diag, order_diags, same_diag};
-use crate::fingerprint::Fingerprint;
-use crate::kind::{Kind, copy_kind, print_kind, same_kind};
-use crate::list::List;
-use crate::memory::NoMemory;
-use crate::name::{
+use mk_base::char_class::{CharClass, class_of};
+use mk_base::diag::{Diag, order_diags, same_diag};
+use mk_base::fingerprint::Fingerprint;
+use mk_base::kind::{Kind, copy_kind, print_kind, same_kind};
+use mk_base::list::List;
+use mk_base::memory::NoMemory;
+use mk_base::name::{
     ModName, Name, Node, Occ, Space, Unit, order_names, order_nodes, same_name, same_node,
 };
-use crate::place::{NodeId, Pos};
-use crate::plain::Plain;
-use crate::text::Text;
-use crate::ty::{Ty, copy_ty, levels_within, print_ty, same_ty};
+use mk_base::place::{NodeId, Pos};
+use mk_base::plain::Plain;
+use mk_base::text::Text;
+use mk_base::ty::{Ty, copy_ty, levels_within, print_ty, same_ty};
 use sqlite_items::Boxed;
 use std::alloc::Global;
 use std::cmp::Ordering;
