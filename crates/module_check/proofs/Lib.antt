@@ -5,3 +5,4 @@ pub mod Weights
 pub mod Sound
 pub mod Fitting
 pub mod Ordered
+pub mod Checking

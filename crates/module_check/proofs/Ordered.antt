@@ -8,7 +8,7 @@ use Rattle.std.specs.declared.cmp.Ordering.TheVariants.{Less, Equal}
 use Rattle.std.proofs.lemmas.Bool.{lt-ltb}
 use Rattle.std.proofs.lemmas.Cmp.{nat_cmp_total, tied_itself}
 use Rattle.std.proofs.Common.{◌≡◌, ℕ, ◌<◌, Bool, true, false, List, [], ◌∷◌, ◌++◌, refl, ap, sym, ◌∙◌, subst, Some, None, Result, Ok, Err, append_assoc, inl, inr}
-use Rattle.mk_base.specs.Order.{diag_cmp, text_cmp}
+use Rattle.mk_base.specs.Order.{AreInOrder, diag_cmp, text_cmp}
 use Rattle.mk_base.specs.declared.name.Node.{Node}
 use Rattle.mk_base.specs.declared.diag.Diag.{Diag}
 use Rattle.mk_base.specs.declared.place.Pos.{Pos}
@@ -26,7 +26,8 @@ use Rattle.hs_layout.specs.declared.state.Spot.{Spot}
 use Rattle.hs_layout.specs.declared.state.State.{State}
 use Rattle.hs_layout.specs.Braced.{after, at_end, before, braced, braced_from, is_pragma, put_token, spot_of, start}
 use Rattle.hs_layout.specs.Roles.{role_of}
-use Rattle.plain_form.specs.Form.{first_place, lexeme_places, places, read_form, words, written_at}
+use Rattle.mk_base.specs.Places.{first_place}
+use Rattle.plain_form.specs.Form.{lexeme_places, places, read_form, words, written_at}
 use Rattle.plain_form.specs.declared.form.Written.{Written}
 use Rattle.plain_form.specs.declared.form.Reading.{Reading}
 use Rattle.plain_form.specs.declared.form.Reading.TheVariants.{Form, Leaves}
@@ -38,7 +39,7 @@ use Rattle.plain_scope.proofs.Order.{are_ordered}
 use Rattle.unbuilt_forms.specs.Unbuilt.{unbuilt, formed}
 use Rattle.module_check.specs.declared.check.CheckSettings.{CheckSettings}
 use Rattle.module_check.specs.Check.{after_items, check, items_of, of_lexemes, outcome_of}
-use Rattle.module_check.specs.Laws.{AreInOrder, ChecksAreOrdered}
+use Rattle.module_check.specs.Laws.{ChecksAreOrdered}
 
 -- no sign is put
 abbrev AreUnsigned : List Token → Type 0

@@ -12,7 +12,7 @@ use Rattle.build_theory.proofs.Lists.{both_ways, clash, any_of, and_both, in_bac
 use Rattle.plain_form.specs.declared.form.Word.{Word}
 use Rattle.plain_form.specs.declared.form.DataItem.{DataItem}
 use Rattle.plain_form.specs.declared.form.Written.{Written}
-use Rattle.plain_form.specs.Words.{same_text}
+use Rattle.mk_base.specs.Texts.{same_text}
 use Rattle.plain_scope.specs.declared.scope.DataDecl.{DataDecl}
 use Rattle.plain_scope.specs.declared.scope.Content.{Content}
 use Rattle.plain_scope.specs.declared.scope.Checked.TheVariants.{Sound}

@@ -19,7 +19,8 @@ use Rattle.plain_form.specs.declared.form.Reading.{Reading}
 use Rattle.plain_form.specs.declared.state.Stage.{Stage}
 use Rattle.plain_form.specs.declared.state.Stage.TheVariants as stage
 use Rattle.plain_form.specs.declared.state.State.{State}
-use Rattle.plain_form.specs.Form.{first_place, is_pragma, without_pragmas, is_text, is_word, is_name, is_module, is_import, opened, is_next, word_of, at_stage, with_data, with_field, on, at_open, is_close, behind_part, at_data, at_part, step_at, step, told, ended, go, read_from, start, read_form}
+use Rattle.mk_base.specs.Places.{first_place}
+use Rattle.plain_form.specs.Form.{is_pragma, without_pragmas, is_text, is_word, is_name, is_module, is_import, opened, is_next, word_of, at_stage, with_data, with_field, on, at_open, is_close, behind_part, at_data, at_part, step_at, step, told, ended, go, read_from, start, read_form}
 use Rattle.unbuilt_forms.specs.Unbuilt.{unbuilt, formed}
 use Rattle.module_check.specs.Check.{of_lexemes, items_of}
 use Rattle.module_check.proofs.Bounds.{IsShortToken, count_of, count, lexemes, AreFew, lexemes_few, laid_out}

@@ -1,19 +1,13 @@
 -- What holds of every check.
-use Rattle.std.specs.Prelude.{◌≡◌, ◌<◌, ◌≤◌, ◌^◌, ℕ, List, [], ◌∷◌, length, Ok, Err}
+use Rattle.std.specs.Prelude.{◌≡◌, ◌<◌, ◌≤◌, ◌^◌, ℕ, List, length, Ok, Err}
 use Rattle.std.specs.List.{AllByRecursion}
-use Rattle.std.specs.declared.cmp.Ordering.TheVariants.{Less}
-use Rattle.mk_base.specs.Order.{diag_cmp}
+use Rattle.mk_base.specs.Order.{AreInOrder}
 use Rattle.mk_base.specs.declared.name.Node.{Node}
 use Rattle.mk_base.specs.declared.diag.Diag.{Diag}
 use Rattle.plain_scope.specs.declared.scope.Content.{Content}
 use Rattle.plain_scope.specs.Offered.{IsSound, Fits}
 use Rattle.module_check.specs.declared.check.CheckSettings.{CheckSettings}
 use Rattle.module_check.specs.Check.{check}
-
--- diagnostics by their places, numbers and texts, no two alike
-abbrev pub AreInOrder : List Diag → Type 0
-AreInOrder [] = Unit {0}
-AreInOrder (d ∷ ds) = AllByRecursion (λ e. diag_cmp d e ≡ Less) ds × AreInOrder ds
 
 -- The diagnostics of a check are in order.
 abbrev pub ChecksAreOrdered : Type 0

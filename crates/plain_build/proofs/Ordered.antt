@@ -5,18 +5,17 @@ use Rattle.std.specs.Option.{option_map_or}
 use Rattle.std.specs.declared.option.Option.{Option}
 use Rattle.std.specs.declared.cmp.Ordering.TheVariants.{Less}
 use Rattle.std.proofs.Common.{◌≡◌, ℕ, Bool, true, false, List, [], ◌∷◌, ◌++◌, refl, subst, Some, None, Result, Ok, Err}
-use Rattle.mk_base.specs.Order.{diag_cmp}
+use Rattle.mk_base.specs.Order.{AreInOrder, diag_cmp}
 use Rattle.mk_base.specs.declared.name.Node.{Node}
 use Rattle.mk_base.specs.declared.diag.Diag.{Diag}
 use Rattle.mod_graph.specs.Graph.{entries, errors_by}
-use Rattle.mod_graph.specs.Laws.{AreInOrder}
+use Rattle.mod_graph.specs.Laws as graph_laws
 use Rattle.mod_graph.proofs.InOrder.{errors_rise}
 use Rattle.plain_scope.specs.declared.scope.Content.{Content}
 use Rattle.face_model.specs.declared.result.Reason.TheVariants.{NoInterface}
 use Rattle.build_theory.specs.Build.{Outcome, Failed, Blocked, Checked, Graph, Behind, environment, first_bad, of_check, order, outcomes, results, sorted, step}
 use Rattle.unbuilt_forms.specs.Unbuilt.{is_told}
 use Rattle.module_check.specs.Check.{check}
-use Rattle.module_check.specs.Laws as checks
 use Rattle.module_check.proofs.Ordered.{checks_are_ordered}
 use Rattle.plain_build.specs.Plain.{PlainTree, check_settings, graph_errors, imported, imports_of, input_of, plain, unless_none}
 use Rattle.plain_build.specs.Result.{PlainJudged, tree_of}
@@ -41,15 +40,14 @@ unless_some : (xs ds : List Diag) → unless_none xs ≡ Some ds → xs ≡ ds
 unless_some [] ds h = absurd (let k : ⊥ = cc in k)
 unless_some (x ∷ xs) ds h = let k : x ∷ xs ≡ ds = cc in k
 
+in_order_too : (ds : List Diag) → graph_laws.AreInOrder ds → AreInOrder ds
+in_order_too [] h = tt
+in_order_too (d ∷ ds) h = (h.0, in_order_too ds h.1)
+
 graph_ordered : (t : PlainTree) (n : Node) (ds : List Diag) → graph_errors t n ≡ Some ds → AreInOrder ds
 graph_ordered t n ds h =
     subst AreInOrder (unless_some (filter (is_told n) (errors_by (input_of t) n)) ds h)
-    (filtered_ordered (is_told n) (errors_by (input_of t) n) (errors_rise (entries (input_of t)) [] n))
-
--- and those of a check
-in_order_too : (ds : List Diag) → checks.AreInOrder ds → AreInOrder ds
-in_order_too [] h = tt
-in_order_too (d ∷ ds) h = (h.0, in_order_too ds h.1)
+    (filtered_ordered (is_told n) (errors_by (input_of t) n) (in_order_too (errors_by (input_of t) n) (errors_rise (entries (input_of t)) [] n)))
 
 -- the result of a node
 abbrev stages : Option (List Diag) → Option Node → Result Content (List Diag) → PlainJudged
@@ -66,7 +64,7 @@ step_ordered : (t : PlainTree) (done : List (Node × Outcome Node Content (List 
 step_ordered t done q =
     let cs : List Content = imported t q.0 (environment plain t q.0 done t.sources) (imports_of t.settings q.0 q.1) in
     stages_ordered (graph_errors t q.0) (first_bad plain t q.0 done (order plain t)) (check (check_settings t.settings) q.0 q.1 cs)
-    (λ ds. graph_ordered t q.0 ds) (λ ds e. in_order_too ds (checks_are_ordered (check_settings t.settings) q.0 q.1 cs ds e))
+    (λ ds. graph_ordered t q.0 ds) (λ ds e. checks_are_ordered (check_settings t.settings) q.0 q.1 cs ds e)
 
 abbrev AllOrdered : List (Node × PlainJudged) → Type 0
 AllOrdered js = AllByRecursion (λ (j : Node × PlainJudged). HasOrdered j.1.outcome) js

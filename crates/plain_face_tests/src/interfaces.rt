@@ -1,17 +1,37 @@
 //! Interfaces against worked bytes.
-ghost use Rattle.std.specs.Prelude.{◌≤◌, length};
+ghost use Rattle.std.specs.Prelude.{◌≡◌, ◌≤◌, IfOk, length};
 ghost use Rattle.std.specs.List.{All};
+ghost use Rattle.mk_base.specs.declared.name.Space.TheVariants.{Ty as OfType};
+ghost use Rattle.plain_scope.specs.Scope.{entity};
 ghost use Rattle.plain_face.specs.Sizes.{NameFits};
 
-use crate::interface::interface_bytes;
+use plain_face::interface::interface_bytes;
 use crate::table::full_name;
 use mk_base::list::List;
 use mk_base::memory::NoMemory;
-use mk_base::name::{Name, Space};
+use mk_base::name::{ModName, Name, Occ, Space, Unit};
 use mk_base::text::Text;
 use plain_scope::scope::{Content, DataDecl};
 use std::alloc::Global;
 use std::test::Fail;
+
+/// The full name of a type.
+fn type_named(alloc: Global, unit: &[u8], module: &[u8], text: &[u8]) -> Result<Name, NoMemory>
+    ensures { IfOk result (λ n. n ≡ entity unit.now module.now OfType text.now) }
+{
+    Ok(Name {
+        unit: Unit {
+            text: Text::from_slice(alloc, unit)?,
+        },
+        module: ModName {
+            text: Text::from_slice(alloc, module)?,
+        },
+        occ: Occ {
+            space: Space::Ty,
+            text: Text::from_slice(alloc, text)?,
+        },
+    })
+}
 
 /// The interface of a module of unit `main` with one data type.
 fn interface_of(
@@ -51,10 +71,8 @@ fn module_with_a_type_alone(rt: HostRuntime) -> Result<(), Fail> {
 #[test]
 fn field_of_another_module(rt: HostRuntime) -> Result<(), Fail> {
     let alloc = rt.alloc();
-    let module = Text::from_slice(alloc, b"A")?;
-    let ty = Text::from_slice(alloc, b"T")?;
     let mut fields = List::new(alloc);
-    fields.push(full_name(alloc, b"main", &module, Space::Ty, &ty)?)?;
+    fields.push(type_named(alloc, b"main", b"A", b"T")?)?;
     let bytes = interface_of(alloc, b"B", b"U", b"D", fields)?;
     let expected = b"HSFI\x00\x04main\x01B\x00\
         \x03\x04main\x01A\x02\x01T\x04main\x01B\x01\x01D\x04main\x01B\x02\x01U\

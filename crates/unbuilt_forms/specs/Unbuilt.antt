@@ -4,7 +4,8 @@ use Rattle.mk_base.specs.declared.name.Node.{Node}
 use Rattle.mk_base.specs.declared.diag.Diag.{Diag}
 use Rattle.mk_base.specs.declared.place.Pos.{Pos}
 use Rattle.hs_syntax.specs.declared.token.Token.{Token}
-use Rattle.plain_form.specs.Form.{first_place, read_form}
+use Rattle.mk_base.specs.Places.{first_place}
+use Rattle.plain_form.specs.Form.{read_form}
 use Rattle.plain_form.specs.declared.form.Written.{Written}
 use Rattle.plain_form.specs.declared.form.Reading.{Reading}
 use Rattle.plain_form.specs.declared.form.Reading.TheVariants.{Form, Leaves}
