@@ -5,12 +5,12 @@ ghost use Rattle.mk_base.specs.declared.name.Space.TheVariants.{Ty as OfType};
 ghost use Rattle.plain_scope.specs.Scope.{entity};
 ghost use Rattle.plain_face.specs.Sizes.{NameFits};
 
-use plain_face::interface::interface_bytes;
 use crate::table::full_name;
 use mk_base::list::List;
 use mk_base::memory::NoMemory;
 use mk_base::name::{ModName, Name, Occ, Space, Unit};
 use mk_base::text::Text;
+use plain_face::interface::interface_bytes;
 use plain_scope::scope::{Content, DataDecl};
 use std::alloc::Global;
 use std::test::Fail;

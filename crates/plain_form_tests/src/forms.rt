@@ -4,12 +4,12 @@
 //! a semicolon with `+` behind it is one that layout put, a word that begins with `#` a pragma, and one that begins with
 //! a capital a name, qualified where a dot is in it. What is read is the place that is told of what leaves the form, or
 //! a bar and each data type with a semicolon.
-use plain_form::form::{Reading, Word, form_is_its_spelling, read_form, words_rise_with_lexemes};
 use hs_syntax::token::{PutSign, Token, TokenKind};
 use mk_base::list::List;
 use mk_base::memory::NoMemory;
 use mk_base::place::Pos;
 use mk_base::text::Text;
+use plain_form::form::{Reading, Word, form_is_its_spelling, read_form, words_rise_with_lexemes};
 use std::alloc::Global;
 use std::test::Fail;
 

@@ -2,13 +2,13 @@
 ghost use Rattle.std.specs.Prelude.{◌<◌, IfOk};
 ghost use Rattle.std.specs.List.{AllByRecursion};
 
-use plain_scope::scope::{Checked, Content, DataDecl, check, diagnostics_are_ordered};
 use mk_base::diag::Diag;
 use mk_base::list::List;
 use mk_base::memory::NoMemory;
 use mk_base::place::Pos;
 use mk_base::text::Text;
 use plain_form::form::{DataItem, Word, Written};
+use plain_scope::scope::{Checked, Content, DataDecl, check, diagnostics_are_ordered};
 use std::alloc::Global;
 use std::test::Fail;
 
