@@ -16,9 +16,9 @@ use mk_base::memory::NoMemory;
 use mk_base::name::{ModName, Node};
 use mk_base::place::NodeId;
 use mk_base::steps::{Ledger, Steps};
-use module_check::check::{CheckSettings, check};
 use mod_graph::graph::Graph;
 use mod_graph::input::{HeaderOf, ViewOf};
+use module_check::check::{CheckSettings, check};
 use std::alloc::Global;
 use unbuilt_forms::told::told;
 
@@ -131,7 +131,15 @@ fn build_checked<L: Ledger>(
     let places = seen_places(alloc, plan, place, imports.as_slice())?;
     let unit = plan.input.unit.text.as_slice();
     let contents = done.contents.as_slice();
-    match check(alloc, &plan.settings, node, source.bytes, contents, places.as_slice(), steps)? {
+    match check(
+        alloc,
+        &plan.settings,
+        node,
+        source.bytes,
+        contents,
+        places.as_slice(),
+        steps,
+    )? {
         Ok(content) => put_sound(alloc, done, unit, node, content),
         Err(diags) => put_unsound(alloc, done, node, how_checked(alloc), diags),
     }
