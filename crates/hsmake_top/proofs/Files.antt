@@ -5,7 +5,7 @@ use Rattle.std.proofs.lemmas.Bool.{eqb-true}
 use Rattle.std.specs.Cmp.Lexicographic.{nat_list_eq_equiv}
 use Rattle.indexmap.specs.IndexSet.{insert_key}
 use Rattle.mk_io.specs.declared.file.File.{File}
-use Rattle.plain_form.specs.Words.{same_text}
+use Rattle.mk_base.specs.Texts.{same_text}
 use Rattle.plain_build.specs.Result.{AreDistinct, AreShort}
 use Rattle.hsmake_top.specs.Session.{put_file}
 use Rattle.hsmake_top.specs.Kept.{names_of}

@@ -3,7 +3,7 @@ use Rattle.std.proofs.Common.{◌^◌, ◌≡◌, ℕ, suc, ◌+◌, ◌<◌, �
 use Rattle.std.specs.List.{AllByRecursion, list_any, position_or_len, remove}
 use Rattle.std.specs.Set.{remove_key}
 use Rattle.mk_io.specs.declared.file.File.{File}
-use Rattle.plain_form.specs.Words.{same_text}
+use Rattle.mk_base.specs.Texts.{same_text}
 use Rattle.plain_build.specs.Result.{AreDistinct, AreShort}
 use Rattle.hsmake_top.specs.Session.{without_file}
 use Rattle.hsmake_top.specs.Kept.{names_of}

@@ -13,7 +13,7 @@ use Rattle.report.specs.Report as report
 use Rattle.report.specs.Report.{Row, Standing, reason_text, report_of, line}
 use Rattle.session_lang.specs.Spelling.{Said, Put, Flags, Build, Quit, Del}
 use Rattle.session_lang.specs.Script.{limit, IsPlain, IsScript, IsBadScript, spellings}
-use Rattle.plain_form.specs.Words.{same_text}
+use Rattle.mk_base.specs.Texts.{same_text}
 use Rattle.plain_scope.specs.declared.scope.Content.{Content}
 use Rattle.plain_build.specs.declared.build.PlainBuild.{PlainBuild}
 use Rattle.plain_build.specs.Result.{PlainJudged, built, checks_in}

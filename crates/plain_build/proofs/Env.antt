@@ -2,7 +2,7 @@
 use Rattle.std.proofs.Common.{◌≡◌, ℕ, zero, suc, ◌<◌, ◌≤◌, Bool, true, false, ◌||◌, cond, List, [], ◌∷◌, ◌++◌, length, refl, ap, sym, ◌∙◌, subst, inl, inr, Some, None, append_assoc, arith, nat_lt}
 use Rattle.std.specs.Prelude.{slice_get, position}
 use Rattle.std.specs.declared.option.Option.{Option}
-use Rattle.std.specs.Option.{option_map, option_map_or}
+use Rattle.std.specs.Option.{option_map, option_map_or, option_to_list}
 use Rattle.std.specs.List.{list_any, AllByRecursion}
 use Rattle.std.specs.Map.{lookup}
 use Rattle.std.proofs.lemmas.Bool.Decides.{nat_tests}
@@ -18,7 +18,7 @@ use Rattle.mod_graph.specs.Graph.{Input, View, Tree, Package, Prim, view_of}
 use Rattle.mod_graph.proofs.NodeTests.{node_itself, nodes_tell}
 use Rattle.mod_graph.proofs.Numbering.{any_with, finds, found_at}
 use Rattle.plain_scope.specs.declared.scope.Content.{Content}
-use Rattle.plain_scope.specs.Scope.{one_at, contents_at}
+use Rattle.plain_scope.specs.Scope.{contents_at}
 use Rattle.plain_build.specs.Plain.{PlainTree, plain, imported, input_of, seen}
 use Rattle.plain_build.specs.Result.{PlainJudged}
 use Rattle.plain_build.specs.Steps.{before_place, import_places, node_place, one_place, seen_place, view_by}
@@ -147,7 +147,7 @@ places_within i ns n (y ∷ ys) =
 
 contents_join : (cs : List Content) (ps rs : List ℕ) → contents_at cs (ps ++ rs) ≡ contents_at cs ps ++ contents_at cs rs
 contents_join cs [] rs = refl
-contents_join cs (p ∷ ps) rs = ap (λ l. one_at (slice_get cs p) ++ l) (contents_join cs ps rs) ∙ sym (append_assoc (one_at (slice_get cs p)) (contents_at cs ps) (contents_at cs rs))
+contents_join cs (p ∷ ps) rs = ap (λ l. option_to_list (slice_get cs p) ++ l) (contents_join cs ps rs) ∙ sym (append_assoc (option_to_list (slice_get cs p)) (contents_at cs ps) (contents_at cs rs))
 
 module _ (t : PlainTree) (js : Results) (qs : Sources) (stands : Stands js qs) (apart : AreDistinct plain qs) (whole : (q : Node × List ℕ) → IsIn q qs → list_any (λ (p : Node × List ℕ). same_node q.0 p.0) t.sources ≡ true)
     (cs : List Content) (contents : AreContents cs js) (n : ℕ) (many : length js ≡ n) (a : Node × List ℕ) (here : slice_get qs n ≡ Some a)
@@ -159,30 +159,30 @@ module _ (t : PlainTree) (js : Results) (qs : Sources) (stands : Stands js qs) (
   ns = nodes_of qs
 
   -- a node before this one that is needed offers its content
-  before_seen : (k : ℕ) (q : Node × List ℕ) → slice_get qs k ≡ Some q → k < n → is_need plain t a.0 q.0 ≡ true → one_at (lookup (same_node q.0) env) ≡ contents_at cs (k ∷ [])
+  before_seen : (k : ℕ) (q : Node × List ℕ) → slice_get qs k ≡ Some q → k < n → is_need plain t a.0 q.0 ≡ true → option_to_list (lookup (same_node q.0) env) ≡ contents_at cs (k ∷ [])
   before_seen k q e lt need =
       let j = standing js qs stands apart k q (omega arith) e in
       let good : is_sound j.0.1.outcome ≡ true = sym (ap (λ o. option_map_or is_sound o false) j.2) ∙ sound q (in_at qs k q e) need in
       let c = content_there cs js k j.0 contents j.1 good in
-      ap one_at (env_at t a.0 q.0 c.0 (outcomes js) t.sources (whole q (in_at qs k q e)) need (j.2 ∙ ap (λ o. Some o) c.2))
-      ∙ sym (ap (λ (o : Option Content). one_at o ++ []) c.1)
+      ap option_to_list (env_at t a.0 q.0 c.0 (outcomes js) t.sources (whole q (in_at qs k q e)) need (j.2 ∙ ap (λ o. Some o) c.2))
+      ∙ sym (ap (λ (o : Option Content). option_to_list o ++ []) c.1)
 
   -- any other node offers nothing
-  after_seen : (k : ℕ) (q : Node × List ℕ) → slice_get qs k ≡ Some q → n ≤ k → one_at (lookup (same_node q.0) env) ≡ []
-  after_seen k q e le = ap one_at (env_without t a.0 q.0 (outcomes js) t.sources (not_yet js qs stands apart k q (omega arith) e))
+  after_seen : (k : ℕ) (q : Node × List ℕ) → slice_get qs k ≡ Some q → n ≤ k → option_to_list (lookup (same_node q.0) env) ≡ []
+  after_seen k q e le = ap option_to_list (env_without t a.0 q.0 (outcomes js) t.sources (not_yet js qs stands apart k q (omega arith) e))
 
-  placed_seen : (d : Node) (k : ℕ) → slice_get ns k ≡ Some d → (k < n → is_need plain t a.0 d ≡ true) → (b : Bool) → nat_lt k n ≡ b → one_at (lookup (same_node d) env) ≡ contents_at cs (one_place (cond b (Some k) None))
+  placed_seen : (d : Node) (k : ℕ) → slice_get ns k ≡ Some d → (k < n → is_need plain t a.0 d ≡ true) → (b : Bool) → nat_lt k n ≡ b → option_to_list (lookup (same_node d) env) ≡ contents_at cs (one_place (cond b (Some k) None))
   placed_seen d k e need true lt =
       let q = source_from qs k d e in
-      subst (λ x. one_at (lookup (same_node x) env) ≡ contents_at cs (k ∷ [])) q.2
+      subst (λ x. option_to_list (lookup (same_node x) env) ≡ contents_at cs (k ∷ [])) q.2
       (before_seen k q.0 q.1 (below_test k n lt) (subst (λ x. is_need plain t a.0 x ≡ true) (sym q.2) (need (below_test k n lt))))
   placed_seen d k e need false ge =
       let q = source_from qs k d e in
-      subst (λ x. one_at (lookup (same_node x) env) ≡ []) q.2 (after_seen k q.0 q.1 (above_test k n ge))
+      subst (λ x. option_to_list (lookup (same_node x) env) ≡ []) q.2 (after_seen k q.0 q.1 (above_test k n ge))
 
   tree_seen : (d : Node) (o : Option ℕ) → position (same_node d) ns ≡ o → ((k : ℕ) → slice_get ns k ≡ Some d → k < n → is_need plain t a.0 d ≡ true)
-      → one_at (lookup (same_node d) env) ≡ contents_at cs (one_place (before_place n o))
-  tree_seen d None e need = ap one_at (env_without t a.0 d (outcomes js) t.sources (none_done js qs d stands (unplaced d ns e)))
+      → option_to_list (lookup (same_node d) env) ≡ contents_at cs (one_place (before_place n o))
+  tree_seen d None e need = ap option_to_list (env_without t a.0 d (outcomes js) t.sources (none_done js qs d stands (unplaced d ns e)))
   tree_seen d (Some k) e need =
       let f = found_at (same_node d) ns k e in
       let at : slice_get ns k ≡ Some d = f.1 ∙ ap (λ x. Some x) (sym (nodes_tell d f.0 f.2)) in

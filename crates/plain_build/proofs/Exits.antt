@@ -15,17 +15,26 @@ use Rattle.mod_graph.specs.Graph.{Input, entries, errors_by, ids, needs_in}
 use Rattle.mod_graph.specs.Kept.{IsGraph}
 use Rattle.mk_base.specs.declared.place.NodeId.{NodeId}
 use Rattle.plain_scope.specs.declared.scope.Content.{Content}
-use Rattle.plain_scope.specs.declared.scope.Checked.{Checked as CheckedModule}
 use Rattle.plain_scope.specs.Scope.{contents_at}
-use Rattle.plain_build.specs.declared.reading.SourceReading.{SourceReading}
+use Rattle.unbuilt_forms.specs.Unbuilt.{is_told}
+use Rattle.module_check.specs.Check.{check}
+use Rattle.module_check.specs.declared.check.CheckSettings.{CheckSettings}
 use Rattle.plain_build.specs.declared.build.PlainBuild.{PlainBuild}
-use Rattle.plain_build.specs.Plain.{PlainTree, graph_errors, header_at, imports_of, input_of, is_told, unless_none}
+use Rattle.plain_build.specs.Plain.{PlainTree, check_settings, graph_errors, header_at, imports_of, input_of, unless_none}
 use Rattle.plain_build.specs.Steps.{first_unsound, import_places}
-use Rattle.plain_build.specs.Done.{IsPlanned, checked_of, nodes_of, ordered, sorted_tree}
+use Rattle.plain_build.specs.Done.{IsPlanned, nodes_of, ordered, sorted_tree}
 
 pub tree_unit : (input : PlainBuild) → (sorted_tree input).settings.unit ≡ input.unit.text
 unfolding sorted_tree
 tree_unit input = refl
+
+abbrev pub settings_of : List ℕ → Bool → CheckSettings
+settings_of unit restrict = record { unit = record { text = unit }; restrict = restrict }
+
+-- what a check goes by
+pub tree_settings : (input : PlainBuild) (unit : List ℕ) → unit ≡ input.unit.text → settings_of unit input.restrict ≡ check_settings (sorted_tree input).settings
+unfolding sorted_tree
+tree_settings input unit e = ap (λ u. settings_of u input.restrict) e
 
 pub tree_prelude : (input : PlainBuild) → (sorted_tree input).settings.prelude ≡ input.prelude
 unfolding sorted_tree
@@ -35,9 +44,9 @@ pub on_three : {X E : Type 0} (r : Result X E) (P Q R S : Type 0) → (P → Q �
 on_three (Ok x) P Q R S f p q r = f p q r
 on_three (Err e) P Q R S f p q r = tt
 
-pub on_one : {X E : Type 0} (r : Result X E) (P Q : Type 0) → (P → Q) → OnOk r P → OnOk r Q
-on_one (Ok x) P Q f p = f p
-on_one (Err e) P Q f p = tt
+pub on_two : {X E : Type 0} (r : Result X E) (P Q S : Type 0) → (P → Q → S) → OnOk r P → OnOk r Q → OnOk r S
+on_two (Ok x) P Q S f p q = f p q
+on_two (Err e) P Q S f p q = tt
 
 pub none_ticked : (k n : ℕ) → n ≡ 0 → k ≡ k + n
 none_ticked k n e = omega arith
@@ -46,10 +55,9 @@ pub one_ticked : (k l n : ℕ) → l ≡ k + 1 → n ≡ 1 → l ≡ k + n
 one_ticked k l n e f = omega arith
 
 -- what is checked, by what it is made from
-pub given_is : (k : CheckedModule) (u v m l : List ℕ) (r s : SourceReading) (cs ds : List Content) (is js : List ℕ) → k ≡ checked_of u m r (contents_at cs is) → u ≡ v → m ≡ l → r ≡ s → cs ≡ ds → is ≡ js → k ≡ checked_of v l s (contents_at ds js)
-given_is k u v m l r s cs ds is js e a b c d f =
-    e ∙ ap (λ x. checked_of x m r (contents_at cs is)) a ∙ ap (λ x. checked_of v x r (contents_at cs is)) b ∙ ap (λ x. checked_of v l x (contents_at cs is)) c ∙ ap (λ x. checked_of v l s (contents_at x is)) d
-    ∙ ap (λ x. checked_of v l s (contents_at ds x)) f
+pub given_is : (k : Result Content (List Diag)) (g h : CheckSettings) (n : Node) (s : List ℕ) (cs ds : List Content) (is js : List ℕ) → k ≡ check g n s (contents_at cs is) → g ≡ h → cs ≡ ds → is ≡ js → k ≡ check h n s (contents_at ds js)
+given_is k g h n s cs ds is js e a d f =
+    e ∙ ap (λ x. check x n s (contents_at cs is)) a ∙ ap (λ x. check h n s (contents_at x is)) d ∙ ap (λ x. check h n s (contents_at ds x)) f
 
 -- the imports of a node's header are those of its source
 pub header_imports : (input : PlainBuild) (h : Result Header Diag) (a : Node × List ℕ) (is : List ImportItem) → is ≡ imports_in input.prelude h → h ≡ header_at a.0 a.1 → is ≡ imports_of (sorted_tree input).settings a.0 a.1

@@ -9,12 +9,8 @@ pub mod Views
 pub mod NoErrors
 pub mod Needs
 pub mod Env
-pub mod Bounds
-pub mod Weights
-pub mod Sound
 pub mod Next
 pub mod Exits
-pub mod Lexing
 pub mod Paths
 pub mod Sorting
 pub mod Trees

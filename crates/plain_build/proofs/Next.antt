@@ -1,8 +1,8 @@
 -- The build of one more node.
 use Rattle.std.proofs.Common.{◌^◌, ◌≡◌, ℕ, zero, suc, ◌+◌, ◌<◌, ◌≤◌, Bool, true, false, ◌&&◌, not, List, [], ◌∷◌, ◌++◌, length, take, refl, ap, sym, ◌∙◌, subst, Some, None, arith, add-one, length-append}
-use Rattle.std.specs.Prelude.{slice_get, filter, nat_eq}
+use Rattle.std.specs.Prelude.{slice_get, filter, nat_eq, Result, Ok, Err}
 use Rattle.std.specs.declared.option.Option.{Option}
-use Rattle.std.specs.Option.{option_map_or, option_map}
+use Rattle.std.specs.Option.{option_map_or, option_map, option_to_list}
 use Rattle.std.specs.List.{list_any, AllByRecursion}
 use Rattle.std.proofs.lemmas.List.{map-append}
 use Rattle.std.proofs.lemmas.Option.{same_Some, slice_get-map, slice_get_within}
@@ -24,29 +24,26 @@ use Rattle.mod_graph.specs.Names.{same_node}
 use Rattle.mod_graph.specs.Edges.{needs_node}
 use Rattle.mod_graph.specs.Graph.{Tree, entries, ids, needs_in, needs_place, view_of, errors_by}
 use Rattle.mod_graph.proofs.Numbering.{element_at}
-use Rattle.plain_form.specs.declared.form.DataItem.{DataItem}
 use Rattle.plain_scope.specs.declared.scope.Content.{Content}
-use Rattle.plain_scope.specs.declared.scope.Checked.{Checked as CheckedModule}
-use Rattle.plain_scope.specs.declared.scope.Checked.TheVariants as checked
-use Rattle.plain_scope.specs.Scope.{check_of, contents_at, one_at}
-use Rattle.plain_face.specs.Interface.{IsSound, Fits}
+use Rattle.plain_scope.specs.Scope.{contents_at}
+use Rattle.plain_scope.specs.Offered.{IsSound, Fits}
 use Rattle.plain_build.specs.declared.done.Done.{Done}
-use Rattle.plain_build.specs.declared.reading.SourceReading.{SourceReading}
-use Rattle.plain_build.specs.declared.reading.SourceReading.TheVariants.{Whole, Refused}
-use Rattle.plain_build.specs.Plain.{PlainTree, plain, reading, imports_of, imported, input_of, is_told, graph_errors, unless_none, outcome_of, check_reading}
+use Rattle.unbuilt_forms.specs.Unbuilt.{is_told}
+use Rattle.module_check.specs.Check.{check}
+use Rattle.module_check.specs.Laws.{IsShortContent}
+use Rattle.module_check.proofs.Fitting.{checks_fit}
+use Rattle.plain_build.specs.Plain.{PlainTree, check_settings, plain, imports_of, imported, input_of, graph_errors, unless_none}
 use Rattle.plain_build.specs.Result.{PlainJudged, IsResult, AreResults, is_checked}
 use Rattle.plain_build.specs.Steps.{first_unsound, import_places}
 use Rattle.plain_build.specs.Kept.{empty_content, checked_how, result_of, HasSound}
-use Rattle.plain_build.specs.Done.{IsShortNode, IsStanding, IsFree, IsContent, AreContents, IsDone, checked_of, judged_before, judged_next, nodes_of, ordered, soundness}
+use Rattle.plain_build.specs.Done.{IsShortNode, IsStanding, IsFree, IsContent, AreContents, IsDone, judged_before, judged_next, nodes_of, ordered, soundness}
 use Rattle.plain_build.proofs.Alls.{all_join, all_last}
 use Rattle.plain_build.proofs.Entries.{source_number}
 use Rattle.plain_build.proofs.Env.{contents_count, imported_is, places_within, source_from}
 use Rattle.plain_build.proofs.Needs.{Stands, none_bad, need_at, first_bad_is, place_node, unsound_within}
 use Rattle.plain_build.proofs.NoErrors as faults
-use Rattle.plain_build.proofs.Sound.{sound_fits}
 use Rattle.plain_build.proofs.Spots.{in_at, at_in, node_there, rising_apart}
 use Rattle.plain_build.proofs.Views.{seen_needed}
-use Rattle.plain_build.proofs.Weights.{IsShortWord, IsShortItem, weight, AreSmall, reading_small}
 
 abbrev Sources : Type 0
 Sources = List (Node × List ℕ)
@@ -118,43 +115,30 @@ unfolding judged_next ordered
 step_graph t n a ds e =
     ap (λ o. option_map_or (λ e. record { how = Graph; outcome = Failed e }) o
     (option_map_or (λ n. record { how = Behind n; outcome = Blocked n }) (first_bad plain t a.0 (outcomes (judged_before t n)) (ordered t))
-    (record { how = Checked NoInterface; outcome = of_check (check_reading t.settings.unit a.0 (reading a.0 a.1) (imported t a.0 (environment plain t a.0 (outcomes (judged_before t n)) t.sources) (imports_of t.settings a.0 a.1))) }))) e
+    (record { how = Checked NoInterface; outcome = of_check (check (check_settings t.settings) a.0 a.1 (imported t a.0 (environment plain t a.0 (outcomes (judged_before t n)) t.sources) (imports_of t.settings a.0 a.1))) }))) e
 
 step_free : (t : PlainTree) (n : ℕ) (a : Node × List ℕ) → graph_errors t a.0 ≡ None
     → judged_next t a n ≡ option_map_or (λ n. record { how = Behind n; outcome = Blocked n }) (first_bad plain t a.0 (outcomes (judged_before t n)) (ordered t))
-    (record { how = Checked NoInterface; outcome = of_check (check_reading t.settings.unit a.0 (reading a.0 a.1) (imported t a.0 (environment plain t a.0 (outcomes (judged_before t n)) t.sources) (imports_of t.settings a.0 a.1))) })
+    (record { how = Checked NoInterface; outcome = of_check (check (check_settings t.settings) a.0 a.1 (imported t a.0 (environment plain t a.0 (outcomes (judged_before t n)) t.sources) (imports_of t.settings a.0 a.1))) })
 unfolding judged_next ordered
 step_free t n a e =
     ap (λ o. option_map_or (λ e. record { how = Graph; outcome = Failed e }) o
     (option_map_or (λ n. record { how = Behind n; outcome = Blocked n }) (first_bad plain t a.0 (outcomes (judged_before t n)) (ordered t))
-    (record { how = Checked NoInterface; outcome = of_check (check_reading t.settings.unit a.0 (reading a.0 a.1) (imported t a.0 (environment plain t a.0 (outcomes (judged_before t n)) t.sources) (imports_of t.settings a.0 a.1))) }))) e
+    (record { how = Checked NoInterface; outcome = of_check (check (check_settings t.settings) a.0 a.1 (imported t a.0 (environment plain t a.0 (outcomes (judged_before t n)) t.sources) (imports_of t.settings a.0 a.1))) }))) e
 
-check_is : (unit : List ℕ) (n : Node) (r : SourceReading) (cs ds : List Content) → cs ≡ ds → check_reading unit n r cs ≡ outcome_of (checked_of unit n.module.text r ds)
-check_is unit n (Whole w) cs ds e = ap (λ xs. outcome_of (check_of unit n.module.text w xs)) e
-check_is unit n (Refused d) cs ds e = refl
+abbrev pub ok_content : Content → Result Content (List Diag)
+ok_content c = Ok c
 
-short_more : (b : ℕ) (d : DataItem) → b ≤ 1048576 → IsShortItem b d → IsShortItem 1048576 d
-short_more b d l h =
-    let x : length d.ty.text ≤ b = h.0 in
-    let y : length d.con.text ≤ b = h.1 in
-    (omega arith, omega arith, all_map (IsShortWord b) (IsShortWord 1048576) d.fields (λ f s. let z : length f.text ≤ b = s in omega arith) h.2)
+abbrev pub err_diags : List Diag → Result Content (List Diag)
+err_diags ds = Err ds
 
-small_more : (b : ℕ) (r : SourceReading) → b ≤ 1048576 → AreSmall b b r → AreSmall 1048576 1048576 r
-small_more b (Refused d) l h = tt
-small_more b (Whole w) l h = let n : weight w ≤ b = h.0 in (omega arith, all_map (IsShortItem b) (IsShortItem 1048576) w.datas (λ d s. short_more b d l s) h.1)
-
-sound_read : (unit m : List ℕ) (r : SourceReading) (cs : List Content) (c : Content) → checked.Sound c ≡ checked_of unit m r cs → length unit ≤ 64 → length m < 2 ^ 32 → AllByRecursion (λ (c : Content). length c.module < 2 ^ 32) cs
-    → AreSmall 1048576 1048576 r → IsSound unit c × Fits unit c × (c.module ≡ m)
-sound_read unit m (Whole w) cs c e u v h small = sound_fits unit m w cs c (sym e) u v h small
-sound_read unit m (Refused d) cs c e u v h small = absurd (let h : ⊥ = cc in h)
-
-short_one : (P : Content → Type 0) (o : Option Content) → ((c : Content) → o ≡ Some c → P c) → AllByRecursion P (one_at o)
+short_one : (P : Content → Type 0) (o : Option Content) → ((c : Content) → o ≡ Some c → P c) → AllByRecursion P (option_to_list o)
 short_one P None h = tt
 short_one P (Some c) h = (h c refl, tt)
 
 short_at : (P : Content → Type 0) (cs : List Content) (places : List ℕ) → AllByRecursion P cs → AllByRecursion P (contents_at cs places)
 short_at P cs [] h = tt
-short_at P cs (i ∷ is) h = all_join P (one_at (slice_get cs i)) (contents_at cs is) (short_one P (slice_get cs i) (λ c e. all_at P cs c (in_at cs i c e) h)) (short_at P cs is h)
+short_at P cs (i ∷ is) h = all_join P (option_to_list (slice_get cs i)) (contents_at cs is) (short_one P (slice_get cs i) (λ c e. all_at P cs c (in_at cs i c e) h)) (short_at P cs is h)
 
 module _ (t : PlainTree) (fine : IsStanding t) (n : ℕ) (a : Node × List ℕ) (here : slice_get (ordered t) n ≡ Some a) where
   abbrev before : Results
@@ -230,7 +214,7 @@ module _ (t : PlainTree) (fine : IsStanding t) (n : ℕ) (a : Node × List ℕ) 
           let judged : judged_next t a n ≡ j =
           step_free t n a none
           ∙ ap (λ o. option_map_or (λ n. record { how = Behind n; outcome = Blocked n }) o
-          (record { how = Checked NoInterface; outcome = of_check (check_reading t.settings.unit a.0 (reading a.0 a.1) (imported t a.0 (environment plain t a.0 (outcomes before) t.sources) (imports_of t.settings a.0 a.1))) })) (blocked_by p sound (Some k.0) k.1) in
+          (record { how = Checked NoInterface; outcome = of_check (check (check_settings t.settings) a.0 a.1 (imported t a.0 (environment plain t a.0 (outcomes before) t.sources) (imports_of t.settings a.0 a.1))) })) (blocked_by p sound (Some k.0) k.1) in
           let at : slice_get (nodes_of (ordered t)) p.0 ≡ Some k.0.0 = slice_get-map (λ (q : Node × List ℕ). q.0) (ordered t) p.0 ∙ ap (option_map (λ (q : Node × List ℕ). q.0)) k.1 in (
             done_next new (result_of a.0 (how.Blocked p) [] None) empty_content false j judged (refl, at, (refl, refl)) tt (omega arith) refl rs cs bs,
             ap (λ (i : PlainJudged). is_checked i.how) judged,
@@ -275,36 +259,33 @@ module _ (t : PlainTree) (fine : IsStanding t) (n : ℕ) (a : Node × List ℕ) 
           (λ boot. absurd (subst (IsIn y) (faults.boot_imports t a boot) i))
           (λ real. view_needed real y i d v k e lt))
 
-      pub checked_next : (k : CheckedModule) → k ≡ checked_of t.settings.unit a.0.module.text (reading a.0 a.1) given → judged_next t a n ≡ record { how = Checked NoInterface; outcome = of_check (outcome_of k) }
-      checked_next k e =
+      pub checked_next : (r : Result Content (List Diag)) → r ≡ check (check_settings t.settings) a.0 a.1 given → judged_next t a n ≡ record { how = Checked NoInterface; outcome = of_check r }
+      checked_next r e =
           step_free t n a free.no_errors
           ∙ ap (λ o. option_map_or (λ n. record { how = Behind n; outcome = Blocked n }) o
-          (record { how = Checked NoInterface; outcome = of_check (check_reading t.settings.unit a.0 (reading a.0 a.1) (imported t a.0 (environment plain t a.0 (outcomes before) t.sources) (imports_of t.settings a.0 a.1))) })) free.no_bad
-          ∙ ap (λ r. record { how = Checked NoInterface; outcome = of_check r })
-          (check_is t.settings.unit a.0 (reading a.0 a.1) (imported t a.0 (environment plain t a.0 (outcomes before) t.sources) (imports_of t.settings a.0 a.1)) given imported_here ∙ ap outcome_of (sym e))
-
-      small_read : AreSmall 1048576 1048576 (reading a.0 a.1)
-      small_read = small_more (length a.1) (reading a.0 a.1) (short_source free.no_errors) (reading_small a.0 a.1)
+          (record { how = Checked NoInterface; outcome = of_check (check (check_settings t.settings) a.0 a.1 (imported t a.0 (environment plain t a.0 (outcomes before) t.sources) (imports_of t.settings a.0 a.1))) })) free.no_bad
+          ∙ ap (λ r. record { how = Checked NoInterface; outcome = of_check r }) (ap (check (check_settings t.settings) a.0 a.1) imported_here ∙ sym e)
 
       -- what a sound node offers has its interface
-      pub has_interface : (c : Content) → checked.Sound c ≡ checked_of t.settings.unit a.0.module.text (reading a.0 a.1) given → IsSound t.settings.unit c × Fits t.settings.unit c × (c.module ≡ a.0.module.text)
-      has_interface c e = sound_read t.settings.unit a.0.module.text (reading a.0 a.1) given c e fine.unit short_name (short_at (λ (c : Content). length c.module < 2 ^ 32) old.contents.items places done.small) small_read
+      pub has_interface : (c : Content) → ok_content c ≡ check (check_settings t.settings) a.0 a.1 given → IsSound t.settings.unit c × Fits t.settings.unit c × (c.module ≡ a.0.module.text)
+      has_interface c e =
+          checks_fit (check_settings t.settings) a.0 a.1 given c fine.unit short_name (short_source free.no_errors) (short_at IsShortContent old.contents.items places done.small) (sym e)
 
-      pub next_sound : (new : Done) (c : Content) → checked.Sound c ≡ checked_of t.settings.unit a.0.module.text (reading a.0 a.1) given → HasSound t.settings.unit a.0 c old.results new.results
+      pub next_sound : (new : Done) (c : Content) → ok_content c ≡ check (check_settings t.settings) a.0 a.1 given → HasSound t.settings.unit a.0 c old.results new.results
           → new.contents.items ≡ old.contents.items ++ c ∷ [] → new.sound.items ≡ old.sound.items ++ true ∷ [] → IsNext new 1
       next_sound new c e rs cs bs =
           let j : PlainJudged = record { how = Checked NoInterface; outcome = Sound c } in
-          let judged : judged_next t a n ≡ j = checked_next (checked.Sound c) e in (
+          let judged : judged_next t a n ≡ j = checked_next (ok_content c) e in (
             done_next new (result_of a.0 checked_how [] (Some rs.0)) c true j judged (refl, (refl, refl), (refl, rs.1)) refl
                 (subst (λ m. length m < 2 ^ 32) (sym (has_interface c e).2) short_name) refl rs.2 cs bs,
             ap (λ (i : PlainJudged). is_checked i.how) judged,
           )
 
-      pub next_wrong : (new : Done) (ds : List Diag) → checked.Wrong ds ≡ checked_of t.settings.unit a.0.module.text (reading a.0 a.1) given → new.results ≡ old.results ++ result_of a.0 checked_how ds None ∷ []
+      pub next_wrong : (new : Done) (ds : List Diag) → err_diags ds ≡ check (check_settings t.settings) a.0 a.1 given → new.results ≡ old.results ++ result_of a.0 checked_how ds None ∷ []
           → new.contents.items ≡ old.contents.items ++ empty_content ∷ [] → new.sound.items ≡ old.sound.items ++ false ∷ [] → IsNext new 1
       next_wrong new ds e rs cs bs =
           let j : PlainJudged = record { how = Checked NoInterface; outcome = Failed ds } in
-          let judged : judged_next t a n ≡ j = checked_next (checked.Wrong ds) e in (
+          let judged : judged_next t a n ≡ j = checked_next (err_diags ds) e in (
             done_next new (result_of a.0 checked_how ds None) empty_content false j judged (refl, (refl, refl), (refl, refl)) tt (omega arith) refl rs cs bs,
             ap (λ (i : PlainJudged). is_checked i.how) judged,
           )

@@ -15,8 +15,9 @@ use Rattle.mod_graph.specs.Entries.{counted, entry_of, header_errors, imports_in
 use Rattle.mod_graph.specs.Errors.{in_order, alone_errors, import_errors, cycle_errors, entry_errors, errors_of}
 use Rattle.mod_graph.specs.Graph.{entries, errors_by}
 use Rattle.mod_graph.proofs.InOrder.{in_order_keeps}
-use Rattle.plain_build.specs.Plain.{PlainTree, graph_errors, header_at, header_for, imports_of, input_of, is_told, told, unless_none, unread}
+use Rattle.plain_build.specs.Plain.{PlainTree, graph_errors, header_at, header_for, imports_of, input_of, told, unless_none, unread}
 use Rattle.hs_header.specs.Reading.{header_of}
+use Rattle.unbuilt_forms.specs.Unbuilt.{is_told}
 use Rattle.plain_build.specs.Done.{AreRising}
 use Rattle.plain_build.proofs.Entries.{IsEntry, entry_at, source_number}
 

@@ -8,13 +8,8 @@ use Rattle.mod_graph.specs.declared.graph.Graph.{Graph}
 use Rattle.mod_graph.specs.Names.{less_node}
 use Rattle.mod_graph.specs.Kept.{IsGraph}
 use Rattle.plain_scope.specs.declared.scope.Content.{Content}
-use Rattle.plain_scope.specs.declared.scope.Checked.{Checked}
-use Rattle.plain_scope.specs.declared.scope.Checked.TheVariants.{Wrong}
-use Rattle.plain_scope.specs.Scope.{check_of}
 use Rattle.plain_build.specs.declared.build.PlainBuild.{PlainBuild}
 use Rattle.plain_build.specs.declared.done.Done.{Done}
-use Rattle.plain_build.specs.declared.reading.SourceReading.{SourceReading}
-use Rattle.plain_build.specs.declared.reading.SourceReading.TheVariants.{Whole, Refused}
 use Rattle.plain_build.specs.Plain.{PlainTree, plain, input_of, graph_errors}
 use Rattle.plain_build.specs.Result.{PlainJudged, AreResults, tree_of}
 
@@ -83,8 +78,3 @@ pub record IsDone (t : PlainTree) (done : Done) (n : ℕ) : Type 0 where
   pub contents : AreContents done.contents.items (judged_before t n)
   pub small : AllByRecursion (λ (c : Content). length c.module < 2 ^ 32) done.contents.items
   pub sound : done.sound.items ≡ soundness (judged_before t n)
-
--- the check of what was read, with the contents of the imports
-abbrev pub checked_of : List ℕ → List ℕ → SourceReading → List Content → Checked
-checked_of unit m (Whole w) cs = check_of unit m w cs
-checked_of unit m (Refused d) cs = Wrong (d ∷ [])

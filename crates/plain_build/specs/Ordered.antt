@@ -1,11 +1,11 @@
 -- The order of the diagnostics of a build.
 use Rattle.std.specs.Prelude.{List}
 use Rattle.std.specs.List.{AllByRecursion}
+use Rattle.mk_base.specs.Order.{AreInOrder}
 use Rattle.mk_base.specs.declared.name.Node.{Node}
 use Rattle.mk_base.specs.declared.diag.Diag.{Diag}
 use Rattle.build_theory.specs.Build.{Outcome, Failed}
 use Rattle.plain_scope.specs.declared.scope.Content.{Content}
-use Rattle.mod_graph.specs.Laws.{AreInOrder}
 use Rattle.plain_build.specs.declared.build.PlainBuild.{PlainBuild}
 use Rattle.plain_build.specs.Result.{PlainJudged, built}
 

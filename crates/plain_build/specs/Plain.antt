@@ -1,9 +1,11 @@
 -- The part of the language that is built so far, as the theory of builds takes a language.
 use Rattle.std.specs.Prelude.{ℕ, Bool, false, ◌&&◌, ◌||◌, not, nat_eq, nat_lt, List, [], ◌∷◌, ◌++◌, length, map, Some, None, Result, Ok, Err, codes, filter, if◌then◌else◌}
 use Rattle.std.specs.declared.option.Option.{Option}
+use Rattle.std.specs.Option.{option_to_list}
 use Rattle.std.specs.List.{flat_map}
 use Rattle.std.specs.Map.{lookup}
 use Rattle.mk_base.specs.Paths.{node_of}
+use Rattle.mk_base.specs.Places.{first_place}
 use Rattle.mk_base.specs.declared.name.Node.{Node}
 use Rattle.mk_base.specs.declared.diag.Diag.{Diag}
 use Rattle.mk_base.specs.declared.place.Pos.{Pos}
@@ -13,31 +15,27 @@ use Rattle.face_model.specs.declared.result.Reason.TheVariants.{NoInterface}
 use Rattle.build_theory.specs.Build.{Tree, Language}
 use Rattle.hs_syntax.specs.declared.header.Header.{Header}
 use Rattle.hs_syntax.specs.declared.header.ImportItem.{ImportItem}
-use Rattle.hs_syntax.specs.declared.token.Token.{Token}
-use Rattle.hs_lex.specs.Slow.{read_source}
-use Rattle.hs_layout.specs.Braced.{braced}
 use Rattle.hs_header.specs.Reading.{Fault, Lexeme, Grammar, Unknown, header_of}
 use Rattle.mod_graph.specs.declared.input.HeaderOf.{HeaderOf}
-use Rattle.mod_graph.specs.Prelude.{first_place}
 use Rattle.mod_graph.specs.Names.{same_node, less_node}
 use Rattle.mod_graph.specs.Entries.{diag_at, imports_in}
 use Rattle.mod_graph.specs.Edges.{needs_node}
 use Rattle.mod_graph.specs.Graph.{Input, View, entries, errors_by, view_of}
 use Rattle.mod_graph.specs.Graph as seen_as
-use Rattle.plain_form.specs.Form.{read_form}
-use Rattle.plain_form.specs.declared.form.Reading.{Reading}
-use Rattle.plain_form.specs.declared.form.Reading.TheVariants.{Form, Leaves}
-use Rattle.plain_build.specs.declared.reading.SourceReading.{SourceReading}
-use Rattle.plain_build.specs.declared.reading.SourceReading.TheVariants.{Whole, Refused}
+use Rattle.unbuilt_forms.specs.Unbuilt.{is_told}
+use Rattle.module_check.specs.Check.{check}
+use Rattle.module_check.specs.declared.check.CheckSettings.{CheckSettings}
 use Rattle.plain_scope.specs.declared.scope.Content.{Content}
-use Rattle.plain_scope.specs.declared.scope.Checked.{Checked}
-use Rattle.plain_scope.specs.declared.scope.Checked.TheVariants.{Sound, Wrong}
-use Rattle.plain_scope.specs.Scope.{check_of, one_at}
 
--- what is set for the whole tree: its unit's name, and whether Prelude is imported where nothing else is said
+-- what is set for the whole tree: its unit's name, and, where a module's pragmas say nothing, whether Prelude is imported and whether the monomorphism restriction holds
 pub record Settings : Type 0 where
   pub unit : List ℕ
   pub prelude : Bool
+  pub restrict : Bool
+
+-- what of that a check goes by
+abbrev pub check_settings : Settings → CheckSettings
+check_settings g = record { unit = record { text = g.unit }; restrict = g.restrict }
 
 abbrev pub PlainTree : Type 0
 PlainTree = Tree Settings Node (List ℕ)
@@ -79,10 +77,6 @@ input_of t = record { headers = map header_for t.sources; packages = []; prelude
 abbrev pub imports_of : Settings → Node → List ℕ → List ImportItem
 imports_of g n s = imports_in g.prelude (header_at n s)
 
--- until boot files are built, one without its real file is told only that it isn't built
-abbrev pub is_told : Node → Diag → Bool
-is_told n d = not (n.boot && nat_eq d.code 10)
-
 abbrev pub unless_none : List Diag → Option (List Diag)
 unless_none [] = None
 unless_none (d ∷ ds) = Some (d ∷ ds)
@@ -91,41 +85,16 @@ unless_none (d ∷ ds) = Some (d ∷ ds)
 abbrev pub graph_errors : PlainTree → Node → Option (List Diag)
 graph_errors t n = unless_none (filter (is_told n) (errors_by (input_of t) n))
 
--- Sources.
-
--- a part of a source, or the place, that isn't of the form that is built
-abbrev pub unbuilt : Pos → Diag
-unbuilt at = diag_at at 0 (codes "this form is not built yet")
-
-abbrev pub formed : Reading → SourceReading
-formed (Form w) = Whole w
-formed (Leaves at) = Refused (unbuilt at)
-
--- a boot file is of another form
-abbrev pub by_tokens : Node → Result (List Token) Pos → SourceReading
-by_tokens n (Ok ts) = if n.boot then Refused (unbuilt first_place) else formed (read_form (braced ts))
-by_tokens n (Err at) = Refused (no_lexeme at)
-
--- A source is lexed and laid out, and is a module of the form or has one diagnostic.
-abbrev pub reading : Node → List ℕ → SourceReading
-reading n s = by_tokens n (read_source s)
-
-abbrev pub outcome_of : Checked → Result Content (List Diag)
-outcome_of (Sound c) = Ok c
-outcome_of (Wrong ds) = Err ds
+-- Checks.
 
 -- the content of what a node sees of a module
 abbrev pub seen : List (Node × Content) → Option View → List Content
-seen env (Some (seen_as.Tree m)) = one_at (lookup (same_node m) env)
+seen env (Some (seen_as.Tree m)) = option_to_list (lookup (same_node m) env)
 seen env _ = []
 
 -- what the imports of a node offer, each module in the node's view of it
 abbrev pub imported : PlainTree → Node → List (Node × Content) → List ImportItem → List Content
 imported t n env ys = flat_map (λ (y : ImportItem). seen env (view_of (input_of t) n y.module.text)) ys
-
-abbrev pub check_reading : List ℕ → Node → SourceReading → List Content → Result Content (List Diag)
-check_reading unit n (Refused d) cs = Err (d ∷ [])
-check_reading unit n (Whole w) cs = outcome_of (check_of unit n.module.text w cs)
 
 abbrev pub plain : Language Settings Node (List ℕ) Content Content (List Diag) Reason
 plain = record {
@@ -133,11 +102,13 @@ plain = record {
   same = same_node;
   errors = λ t n s. graph_errors t n;
   needs = λ t a b. needs_node (entries (input_of t)) a b;
-  check = λ t n s env. check_reading t.settings.unit n (reading n s) (imported t n env (imports_of t.settings n s));
+  check = λ t n s env. check (check_settings t.settings) n s (imported t n env (imports_of t.settings n s));
   keep = λ c. c;
   missing = NoInterface;
   decide = λ t n s k env. Err NoInterface;
 }
+
+-- Sources.
 
 -- the files that are sources; all others are passed over
 abbrev pub source_at : File → Option Node → List (Node × List ℕ)

@@ -37,7 +37,7 @@ abbrev pub AreShort : List File → Type 0
 AreShort files = AllByRecursion (λ (f : File). length f.name < 2 ^ 32) files
 
 abbrev pub tree_of : PlainBuild → PlainTree
-tree_of input = record { settings = record { unit = input.unit.text; prelude = input.prelude }; sources = sources_of input.files }
+tree_of input = record { settings = record { unit = input.unit.text; prelude = input.prelude; restrict = input.restrict }; sources = sources_of input.files }
 
 abbrev pub PlainJudged : Type 0
 PlainJudged = Judged Node Content (List Diag) Reason

@@ -23,6 +23,7 @@ use mk_base::steps::{Ledger, Steps};
 use mk_io::file::File;
 use mod_graph::graph::Graph;
 use mod_graph::input::HeaderOf;
+use module_check::check::CheckSettings;
 use std::alloc::Global;
 
 /// A tree to be built: its unit, its flags, its files, and the stored interfaces, which count as none so far.
@@ -84,7 +85,17 @@ fn build_nodes<L: Ledger>(
     ensures later { steps.old ≤ steps.new }
 {
     let places = places_of(alloc, sources)?;
-    let plan = Plan { input, graph };
+    let settings = CheckSettings {
+        unit: Unit {
+            text: input.unit.text.copy(alloc)?,
+        },
+        restrict: input.restrict,
+    };
+    let plan = Plan {
+        input,
+        settings,
+        graph,
+    };
     let mut done = Done {
         results: List::new(alloc),
         contents: Vec::new(alloc),

@@ -1,6 +1,7 @@
 //! What is kept of the nodes that are done.
 ghost use Rattle.std.specs.Prelude.{◌≡◌, ◌++◌, ◌∷◌, [], OnOk, Some, None, true, false};
-ghost use Rattle.plain_face.specs.Interface.{Fits, IsInterface, IsSound};
+ghost use Rattle.plain_scope.specs.Offered.{Fits, IsSound};
+ghost use Rattle.plain_face.specs.Interface.{IsInterface};
 ghost use Rattle.plain_build.specs.Kept.{empty_content, result_of, checked_how, HasSound};
 
 use bytes::Bytes;

@@ -6,5 +6,4 @@ mod done;
 mod headers;
 mod node;
 mod places;
-mod reading;
 mod sources;

@@ -1,20 +1,16 @@
 //! The build of one node, behind those before it.
-ghost use Rattle.std.specs.Prelude.{◌≡◌, ◌+◌, ◌<◌, ◌≤◌, ◌∷◌, List as Row, [], length, filter, slice_get, nat_lt, Some, None, IfOk, OnOk, if◌then◌else◌};
-ghost use Rattle.std.specs.List.{AllByRecursion};
-ghost use Rattle.plain_scope.specs.Scope.{contents_at};
+ghost use Rattle.std.specs.Prelude.{◌≡◌, ◌+◌, ◌<◌, ◌≤◌, length, slice_get, nat_lt, Some, None, IfOk, OnOk, if◌then◌else◌};
 ghost use Rattle.plain_build.specs.Plain as spec;
 ghost use Rattle.plain_build.specs.Result.{is_checked};
 ghost use Rattle.plain_build.specs.Steps as steps_spec;
-ghost use Rattle.plain_build.specs.Done.{IsDone, IsFree, IsPlanned, checked_of, judged_next, ordered, sorted_tree};
+ghost use Rattle.plain_build.specs.Done.{IsDone, IsFree, IsPlanned, judged_next, ordered, sorted_tree};
 
 use crate::build::PlainBuild;
 use crate::done::{Done, how_checked, put_sound, put_unsound};
 use crate::headers::effective_imports;
-use crate::reading::{SourceReading, read_node};
 use crate::sources::Source;
 use face_model::result::How;
 use hs_syntax::header::ImportItem;
-use mk_base::diag::Diag;
 use mk_base::list::List;
 use mk_base::memory::NoMemory;
 use mk_base::name::{ModName, Node};
@@ -22,27 +18,16 @@ use mk_base::place::NodeId;
 use mk_base::steps::{Ledger, Steps};
 use mod_graph::graph::Graph;
 use mod_graph::input::{HeaderOf, ViewOf};
-use plain_scope::scope::{Checked, Content, check};
+use module_check::check::{CheckSettings, check};
 use std::alloc::Global;
+use unbuilt_forms::told::told;
 
-/// What the build of each node goes by: the tree, and the graph of its modules.
+/// What the build of each node goes by: the tree, what of it a check goes by, and the graph of its modules.
 #[derive(Drop)]
 pub struct Plan<'a> {
     pub input: &'a PlainBuild,
+    pub settings: CheckSettings,
     pub graph: &'a Graph,
-}
-
-/// The diagnostics that are told of a node: of a boot file not that its real file isn't there.
-fn told_errors(alloc: Global, node: &Node, errors: &[Diag]) -> Result<List<Diag>, NoMemory>
-    ensures { IfOk result (λ ds. ds ≡ filter (spec.is_told node.now) errors.now) }
-{
-    let mut told = List::new(alloc);
-    for error in errors {
-        if !(node.boot && error.code == 10) {
-            told.push(error.copy(alloc)?)?;
-        }
-    }
-    Ok(told)
 }
 
 /// Whether the node at this place is done and sound.
@@ -120,60 +105,43 @@ fn seen_places(
     Ok(places)
 }
 
-/// A list of this diagnostic alone.
-fn only(alloc: Global, diag: &Diag) -> Result<List<Diag>, NoMemory>
-    ensures { IfOk result (λ ds. ds ≡ diag.now ∷ []) }
-{
-    let mut diags = List::new(alloc);
-    diags.push(diag.copy(alloc)?)?;
-    Ok(diags)
-}
-
-/// Checks what was read of a module, whose imports stand at these places.
-fn check_read(
-    alloc: Global,
-    unit: &[u8],
-    name: &[u8],
-    reading: &SourceReading,
-    contents: &[Content],
-    imports: &[usize],
-) -> Result<Checked, NoMemory>
-    requires within { AllByRecursion (λ i. i < length contents.now) imports.now }
-    ensures { IfOk result (λ c. c ≡ checked_of unit.now name.now reading.now (contents_at contents.now imports.now)) }
-{
-    match reading {
-        SourceReading::Whole(written) => check(alloc, unit, name, written, contents, imports),
-        SourceReading::Refused(diag) => Ok(Checked::Wrong(only(alloc, diag)?)),
-    }
-}
-
-/// Checks a node without graph errors whose needs are sound, and keeps its result.
-fn build_checked(
+/// Checks a node without graph errors whose needs are sound, and keeps its result. The check counts one step.
+fn build_checked<L: Ledger>(
     alloc: Global,
     plan: &Plan<'_>,
     place: u32,
     source: &Source<'_>,
     header: &HeaderOf,
     done: &mut Done,
+    steps: &mut Steps<L>,
 ) -> Result<(), NoMemory>
     requires plan { IsPlanned (sorted_tree plan.now.input.now) plan.now.graph.now }
+    requires settings { plan.now.settings ≡ spec.check_settings (sorted_tree plan.now.input.now).settings }
     requires source { slice_get (ordered (sorted_tree plan.now.input.now)) place ≡ Some (source.now.node, source.now.bytes.now) }
     requires header { header.now.header ≡ spec.header_at source.now.node source.now.bytes.now }
     requires done { IsDone (sorted_tree plan.now.input.now) done.old place }
     requires free { IsFree (sorted_tree plan.now.input.now) source.now.node place }
     ensures done { OnOk result (IsDone (sorted_tree plan.now.input.now) done.new (place + 1)) }
     ensures checked { OnOk result (is_checked (judged_next (sorted_tree plan.now.input.now) (source.now.node, source.now.bytes.now) place).how ≡ 1) }
+    ensures ticked { OnOk result (steps.new ≡ steps.old + 1) }
+    ensures later { steps.old ≤ steps.new }
 {
     let node = &source.node;
-    let reading = read_node(alloc, node, source.bytes)?;
     let imports = effective_imports(alloc, &header.header, plan.input.prelude)?;
     let places = seen_places(alloc, plan, place, imports.as_slice())?;
     let unit = plan.input.unit.text.as_slice();
-    let name = node.module.text.as_slice();
     let contents = done.contents.as_slice();
-    match check_read(alloc, unit, name, &reading, contents, places.as_slice())? {
-        Checked::Sound(content) => put_sound(alloc, done, unit, node, content),
-        Checked::Wrong(diags) => put_unsound(alloc, done, node, how_checked(alloc), diags),
+    match check(
+        alloc,
+        &plan.settings,
+        node,
+        source.bytes,
+        contents,
+        places.as_slice(),
+        steps,
+    )? {
+        Ok(content) => put_sound(alloc, done, unit, node, content),
+        Err(diags) => put_unsound(alloc, done, node, how_checked(alloc), diags),
     }
 }
 
@@ -188,6 +156,7 @@ pub fn build_node<L: Ledger>(
     steps: &mut Steps<L>,
 ) -> Result<(), NoMemory>
     requires plan { IsPlanned (sorted_tree plan.now.input.now) plan.now.graph.now }
+    requires settings { plan.now.settings ≡ spec.check_settings (sorted_tree plan.now.input.now).settings }
     requires source { slice_get (ordered (sorted_tree plan.now.input.now)) place ≡ Some (source.now.node, source.now.bytes.now) }
     requires header { header.now.header ≡ spec.header_at source.now.node source.now.bytes.now }
     requires done { IsDone (sorted_tree plan.now.input.now) done.old place }
@@ -196,7 +165,7 @@ pub fn build_node<L: Ledger>(
     ensures later { steps.old ≤ steps.new }
 {
     let node = &source.node;
-    let errors = told_errors(alloc, node, plan.graph.errors(NodeId(place)).as_slice())?;
+    let errors = told(alloc, node, plan.graph.errors(NodeId(place)).as_slice())?;
     if !errors.is_empty() {
         return put_unsound(alloc, done, node, How::Graph, errors);
     }
@@ -204,6 +173,5 @@ pub fn build_node<L: Ledger>(
     if let Some(need) = first_unsound(needs.as_slice(), done.sound.as_slice()) {
         return put_unsound(alloc, done, node, How::Blocked(need), List::new(alloc));
     }
-    steps.tick();
-    build_checked(alloc, plan, place, source, header, done)
+    build_checked(alloc, plan, place, source, header, done, steps)
 }

@@ -11,7 +11,8 @@ use Rattle.plain_scope.specs.declared.scope.DataDecl.{DataDecl}
 use Rattle.plain_scope.specs.declared.scope.Content.{Content}
 use Rattle.plain_scope.specs.Scope.{entity}
 use Rattle.wire.specs.Wire.{num, num_from}
-use Rattle.plain_face.specs.Interface.{Fits, IsTable, names_in, exports_in, field_bytes, blob, place}
+use Rattle.plain_scope.specs.Offered.{Fits, names_in}
+use Rattle.plain_face.specs.Interface.{IsTable, exports_in, field_bytes, blob, place}
 use Rattle.plain_face.specs.Sizes.{NameFits, DeclFits}
 use Rattle.plain_face.proofs.Names.{Export, exported}
 

@@ -17,7 +17,7 @@ use Rattle.mk_base.specs.declared.name.Space.{Space}
 use Rattle.mk_base.specs.declared.name.Space.TheVariants.{Var, Con, Ty}
 use Rattle.plain_scope.specs.Scope.{entity, same_entity, same_space}
 use Rattle.plain_scope.specs.declared.scope.DataDecl.{DataDecl}
-use Rattle.plain_face.specs.Interface.{AreBefore}
+use Rattle.plain_scope.specs.Offered.{AreBefore}
 use Rattle.mk_base.specs.contracts.name.NameOrd.TheImpl as ord
 use Rattle.mk_base.specs.contracts.name.NamePartialEq.TheImpl as peq
 

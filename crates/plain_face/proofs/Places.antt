@@ -14,7 +14,8 @@ use Rattle.mk_base.specs.Order.{name_cmp}
 use Rattle.mk_base.specs.declared.name.Name.{Name}
 use Rattle.mk_base.specs.contracts.name.NameOrd.TheImpl as ord
 use Rattle.plain_scope.specs.Scope.{same_entity}
-use Rattle.plain_face.specs.Interface.{AreBefore, place}
+use Rattle.plain_scope.specs.Offered.{AreBefore}
+use Rattle.plain_face.specs.Interface.{place}
 use Rattle.plain_face.proofs.Names.{name_total, name_same, entity_same, entity_itself, derived_cmp, strict}
 
 not_true : (b : Bool) → (b ≡ true → ⊥) → b ≡ false

@@ -14,7 +14,7 @@ use Rattle.mk_base.specs.Order.{name_cmp}
 use Rattle.mk_base.specs.declared.name.Name.{Name}
 use Rattle.mk_base.specs.contracts.name.NameOrd.TheImpl as ord
 use Rattle.mk_base.specs.contracts.name.NamePartialEq.TheImpl as peq
-use Rattle.plain_face.specs.Interface.{AreBefore}
+use Rattle.plain_scope.specs.Offered.{AreBefore}
 use Rattle.plain_face.proofs.Names.{name_total, name_same, derived_cmp, derived_eq, before}
 
 abbrev same : Name → Name → Bool

@@ -1,7 +1,7 @@
 -- The plain interface of a module, by its one spelling.
-use Rattle.std.specs.Prelude.{◌<◌, ◌^◌, ◌≡◌, ◌↔◌, ℕ, ◌+◌, ◌≤◌, List, [], ◌∷◌, ◌++◌, length, Some, None}
+use Rattle.std.specs.Prelude.{◌≡◌, ◌↔◌, ℕ, ◌+◌, List, [], ◌∷◌, ◌++◌, length, Some, None}
 use Rattle.std.specs.declared.option.Option.{Option}
-use Rattle.std.specs.List.{flat_map, Contains, AllByRecursion, position_or_len}
+use Rattle.std.specs.List.{flat_map, Contains, position_or_len}
 use Rattle.std.specs.List.Sorted.{IsPermutation}
 use Rattle.std.specs.declared.cmp.Ordering.TheVariants.{Less}
 use Rattle.mk_base.specs.Order.{name_cmp, text_cmp}
@@ -10,17 +10,9 @@ use Rattle.mk_base.specs.declared.name.Space.{Space}
 use Rattle.mk_base.specs.declared.name.Space.TheVariants.{Var, Con, Ty}
 use Rattle.plain_scope.specs.declared.scope.DataDecl.{DataDecl}
 use Rattle.plain_scope.specs.declared.scope.Content.{Content}
+use Rattle.plain_scope.specs.Offered.{AreBefore, names_in}
 use Rattle.plain_scope.specs.Scope.{entity, same_entity}
 use Rattle.wire.specs.Wire.{num, text, list_of}
-
--- one before the next, all along
-abbrev pub AreBefore : {X : Type 0} → (X → X → Type 0) → List X → Type 0
-AreBefore before [] = Unit {0}
-AreBefore before (x ∷ xs) = AllByRecursion (before x) xs × AreBefore before xs
-
--- the names that an interface speaks of: the types and constructors that it declares, and the types of their fields
-abbrev pub names_in : List ℕ → Content → List Name
-names_in unit c = flat_map (λ (d : DataDecl). entity unit c.module Ty d.ty ∷ entity unit c.module Con d.con ∷ d.fields) c.datas
 
 -- a table of just these names, each once, by unit, module, space and text
 pub record IsTable (unit : List ℕ) (c : Content) (names : List Name) : Type 0 where
@@ -77,17 +69,3 @@ pub record IsInterface (unit : List ℕ) (c : Content) (bytes : List ℕ) : Type
   pub exports_sorted : AreBefore (λ (a : Name × Option Name) (b : Name × Option Name). name_cmp a.0 b.0 ≡ Less) exports
   pub spelled : bytes ≡ 72 ∷ 83 ∷ 70 ∷ 73 ∷ 0 ∷ (text unit ++ (text c.module ++ (0 ∷ (list_of name_bytes names
       ++ (list_of (index_bytes unit c names) decls ++ (flat_map (blob names) decls ++ list_of (export_bytes names) exports))))))
-
--- What a module of the plain form offers once it is sound: no type and no constructor stands twice.
-pub record IsSound (unit : List ℕ) (c : Content) : Type 0 where
-  pub types : AreBefore (λ (a : DataDecl) (b : DataDecl). a.ty ≡ b.ty → ⊥) c.datas
-  pub constructors : AreBefore (λ (a : DataDecl) (b : DataDecl). a.con ≡ b.con → ⊥) c.datas
-
--- What fits the interface: all texts and counts are far below 2 ^ 32.
-pub record Fits (unit : List ℕ) (c : Content) : Type 0 where
-  pub unit_fits : length unit ≤ 64
-  pub module_fits : length c.module < 2 ^ 32
-  pub count_fits : length c.datas ≤ 1048576
-  pub types_fit : AllByRecursion (λ (d : DataDecl). (length d.ty ≤ 1048576) × (length d.con ≤ 1048576) × (length d.fields ≤ 1048576)) c.datas
-  pub names_fit : AllByRecursion (λ (d : DataDecl). AllByRecursion (λ (n : Name). (length n.unit.text ≤ 64) × (length n.module.text < 2 ^ 32) × (length n.occ.text ≤ 1048576)) d.fields) c.datas
-  pub all_fit : length (names_in unit c) ≤ 4194304

@@ -4,7 +4,8 @@ use Rattle.std.specs.declared.cmp.Ordering.TheVariants.{Less}
 use Rattle.mk_base.specs.Order.{name_cmp}
 use Rattle.mk_base.specs.declared.name.Name.{Name}
 use Rattle.plain_scope.specs.declared.scope.DataDecl.{DataDecl}
-use Rattle.plain_face.specs.Interface.{AreBefore, blob, place}
+use Rattle.plain_scope.specs.Offered.{AreBefore}
+use Rattle.plain_face.specs.Interface.{blob, place}
 use Rattle.plain_scope.specs.Scope.{entity}
 use Rattle.wire.specs.Wire.{num}
 use Rattle.mk_base.specs.declared.name.Space.TheVariants.{Ty}

@@ -4,7 +4,7 @@ ghost use Rattle.std.specs.List.Sorted.{IsPermutation};
 ghost use Rattle.std.specs.declared.cmp.Ordering.TheVariants.{Less};
 ghost use Rattle.mk_base.specs.Order.{text_cmp};
 ghost use Rattle.plain_scope.specs.declared.scope.DataDecl.{DataDecl as Decl};
-ghost use Rattle.plain_face.specs.Interface.{AreBefore, IsSound};
+ghost use Rattle.plain_scope.specs.Offered.{AreBefore, IsSound};
 
 use mk_base::memory::NoMemory;
 use mk_base::plain::Plain;

@@ -7,7 +7,8 @@ ghost use Rattle.mk_base.specs.Order.{name_cmp};
 ghost use Rattle.mk_base.specs.declared.name.Name.{Name as FullName};
 ghost use Rattle.mk_base.specs.declared.name.Space.TheVariants.{Con as IsCon, Ty as IsTy};
 ghost use Rattle.plain_scope.specs.Scope as scope;
-ghost use Rattle.plain_face.specs.Interface.{AreBefore, IsSound, exports_in};
+ghost use Rattle.plain_scope.specs.Offered.{AreBefore, IsSound};
+ghost use Rattle.plain_face.specs.Interface.{exports_in};
 
 use crate::table::full_name;
 use mk_base::memory::NoMemory;

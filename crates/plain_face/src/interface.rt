@@ -1,6 +1,7 @@
 //! Writing the plain interface of a module.
 ghost use Rattle.std.specs.Prelude.{IfOk};
-ghost use Rattle.plain_face.specs.Interface.{Fits, IsInterface, IsSound};
+ghost use Rattle.plain_scope.specs.Offered.{Fits, IsSound};
+ghost use Rattle.plain_face.specs.Interface.{IsInterface};
 
 use crate::decls::sorted_decls;
 use crate::exports::sorted_exports;

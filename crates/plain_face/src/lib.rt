@@ -7,5 +7,3 @@ pub mod interface;
 mod place;
 mod sections;
 mod table;
-#[cfg(test)]
-mod tests;

@@ -2,7 +2,8 @@
 ghost use Rattle.std.specs.Prelude.{◌≡◌, ◌≤◌, length};
 ghost use Rattle.std.specs.declared.cmp.Ordering.TheVariants.{Less};
 ghost use Rattle.mk_base.specs.Order.{name_cmp};
-ghost use Rattle.plain_face.specs.Interface.{AreBefore, place};
+ghost use Rattle.plain_scope.specs.Offered.{AreBefore};
+ghost use Rattle.plain_face.specs.Interface.{place};
 
 use mk_base::name::Name;
 

@@ -2,7 +2,8 @@
 ghost use Rattle.std.specs.Prelude.{◌≡◌, ◌∷◌, ◌++◌, ◌≤◌, IfOk, OnOk, length};
 ghost use Rattle.mk_base.specs.declared.name.Space.TheVariants.{Con as IsCon, Ty as IsTy};
 ghost use Rattle.plain_scope.specs.Scope as scope;
-ghost use Rattle.plain_face.specs.Interface.{IsTable, names_in};
+ghost use Rattle.plain_scope.specs.Offered.{names_in};
+ghost use Rattle.plain_face.specs.Interface.{IsTable};
 
 use mk_base::memory::NoMemory;
 use mk_base::name::{ModName, Name, Occ, Space, Unit};

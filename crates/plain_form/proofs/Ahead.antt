@@ -11,7 +11,8 @@ use Rattle.plain_form.specs.declared.form.Reading.TheVariants.{Form}
 use Rattle.plain_form.specs.declared.state.Stage.{Stage}
 use Rattle.plain_form.specs.declared.state.Stage.TheVariants as stage
 use Rattle.plain_form.specs.declared.state.State.{State}
-use Rattle.plain_form.specs.Form.{first_place, read_from, without_pragmas}
+use Rattle.mk_base.specs.Places.{first_place}
+use Rattle.plain_form.specs.Form.{read_from, without_pragmas}
 
 abbrev token_of : TokenKind → List ℕ → Option PutSign → Token
 token_of k text s = record { kind = k; text = text; start = 0; end = 0; at = first_place; put = s }

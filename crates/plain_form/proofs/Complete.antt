@@ -8,7 +8,8 @@ use Rattle.plain_form.specs.declared.form.Written.{Written}
 use Rattle.plain_form.specs.declared.state.Stage.{Stage}
 use Rattle.plain_form.specs.declared.state.Stage.TheVariants as stage
 use Rattle.plain_form.specs.declared.state.State.{State}
-use Rattle.plain_form.specs.Words.{is_con, same_text}
+use Rattle.mk_base.specs.Texts.{same_text}
+use Rattle.plain_form.specs.Words.{is_con}
 use Rattle.plain_form.specs.Form.{Mark, Fixed, Module, Imported, Placed, Fits, Part, Empty, Import, Data, AreParts, AllFit, part_marks, datas_of, is_text, is_name, is_module, is_import, is_next, opened, is_close, word_of, at_stage, with_data, with_field, on, at_open, at_part, at_data, behind_part, step_at}
 use Rattle.plain_form.proofs.Fits.{fixed_is, fixed_not, name_is, module_is, import_is, open_is, close_is, next_is, close_no_next, close_no_text, next_no_text, close_no_name, next_no_name}
 use Rattle.plain_form.proofs.Left.{Left, LeftOf, RestLeft, PartLeft, HeadLeft, add_data, item_of, follow, rest_less, head_less, rest_split, data_rest}

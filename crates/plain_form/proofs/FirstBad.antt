@@ -8,7 +8,8 @@ use Rattle.plain_form.specs.declared.form.Written.{Written}
 use Rattle.plain_form.specs.declared.form.Reading.{Reading}
 use Rattle.plain_form.specs.declared.form.Reading.TheVariants.{Form, Leaves}
 use Rattle.plain_form.specs.declared.state.State.{State}
-use Rattle.plain_form.specs.Form.{IsForm, Begins, IsFirstBadOf, FormIsSpelled, is_pragma, without_pragmas, told, ended, read_from, start, first_place, last_place}
+use Rattle.mk_base.specs.Places.{first_place}
+use Rattle.plain_form.specs.Form.{IsForm, Begins, IsFirstBadOf, FormIsSpelled, is_pragma, without_pragmas, told, ended, read_from, start, last_place}
 use Rattle.plain_form.proofs.Spelled.{form_spelled, form_read}
 use Rattle.plain_form.proofs.Runs.{run, Sticks, Stops, run_read, run_stuck, fates, stick_leaves, ended_either}
 use Rattle.plain_form.proofs.Ahead.{ends}

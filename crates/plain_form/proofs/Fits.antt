@@ -5,7 +5,8 @@ use Rattle.hs_syntax.specs.declared.token.Token.{Token}
 use Rattle.hs_syntax.specs.declared.token.TokenKind.{TokenKind}
 use Rattle.hs_syntax.specs.declared.token.PutSign.{PutSign}
 use Rattle.hs_syntax.specs.declared.token.PutSign.TheVariants as sign
-use Rattle.plain_form.specs.Words.{is_con, same_text}
+use Rattle.mk_base.specs.Texts.{same_text}
+use Rattle.plain_form.specs.Words.{is_con}
 use Rattle.plain_form.specs.Form.{Fixed, Module, Imported, Placed, Open, Next, Close, Fits, is_module_kind, is_written, is_lexeme, is_text, is_word, is_name, is_module_name, is_module, is_import, opened, is_closing, is_semicolon, is_next, ends_part, word_of}
 
 same_of : (a b : List ℕ) → same_text a b ≡ true → a ≡ b

@@ -9,7 +9,8 @@ use Rattle.plain_form.specs.declared.form.Reading.TheVariants.{Form}
 use Rattle.plain_form.specs.declared.state.Stage.{Stage}
 use Rattle.plain_form.specs.declared.state.Stage.TheVariants as stage
 use Rattle.plain_form.specs.declared.state.State.{State}
-use Rattle.plain_form.specs.Form.{Mark, Fixed, Module, Open, Next, Close, AllFit, Part, Empty, part_marks, parted, IsForm, told, go, ended, read_from, read_form, start, first_place, step, without_pragmas}
+use Rattle.mk_base.specs.Places.{first_place}
+use Rattle.plain_form.specs.Form.{Mark, Fixed, Module, Open, Next, Close, AllFit, Part, Empty, part_marks, parted, IsForm, told, go, ended, read_from, read_form, start, step, without_pragmas}
 use Rattle.plain_form.proofs.Left.{LeftOf, Left, follow, some_left}
 use Rattle.plain_form.proofs.Sound.{sound}
 use Rattle.plain_form.proofs.Complete.{complete}

@@ -2,6 +2,7 @@
 use Rattle.std.specs.Prelude.{◌≡◌, ◌⊎◌, ◌↔◌, ℕ, suc, Bool, true, false, ◌&&◌, ◌||◌, not, List, [], ◌∷◌, ◌++◌, map, filter, take, slice_get, Some, None, codes, if◌then◌else◌}
 use Rattle.std.specs.declared.option.Option.{Option}
 use Rattle.std.specs.List.{flat_map, AllByRecursion}
+use Rattle.mk_base.specs.Places.{first_place}
 use Rattle.mk_base.specs.declared.place.Pos.{Pos}
 use Rattle.hs_syntax.specs.Rising.{AreRising}
 use Rattle.hs_syntax.specs.declared.token.Token.{Token}
@@ -17,11 +18,8 @@ use Rattle.plain_form.specs.declared.form.Reading.TheVariants.{Form, Leaves}
 use Rattle.plain_form.specs.declared.state.Stage.{Stage}
 use Rattle.plain_form.specs.declared.state.Stage.TheVariants as stage
 use Rattle.plain_form.specs.declared.state.State.{State}
-use Rattle.plain_form.specs.Words.{is_con, same_text}
-
--- the place of a source's first character
-abbrev pub first_place : Pos
-first_place = record { line = 1; col = 1 }
+use Rattle.mk_base.specs.Texts.{same_text}
+use Rattle.plain_form.specs.Words.{is_con}
 
 abbrev pub is_pragma : TokenKind → Bool
 is_pragma kind.Pragma = true

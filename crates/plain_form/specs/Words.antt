@@ -1,7 +1,6 @@
 -- Words.
-use Rattle.std.specs.Prelude.{ℕ, nat_le, nat_eq, Bool, false, ◌&&◌, ◌||◌, List, [], ◌∷◌}
+use Rattle.std.specs.Prelude.{ℕ, nat_le, Bool, false, ◌&&◌, ◌||◌, List, [], ◌∷◌}
 use Rattle.std.specs.List.{list_all}
-use Rattle.std.specs.Cmp.Lexicographic.{pointwise}
 
 abbrev pub is_capital : ℕ → Bool
 is_capital b = nat_le 65 b && nat_le b 90
@@ -13,6 +12,3 @@ is_letter_or_digit b = is_capital b || ((nat_le 97 b && nat_le b 122) || (nat_le
 abbrev pub is_con : List ℕ → Bool
 is_con [] = false
 is_con (b ∷ bs) = is_capital b && list_all is_letter_or_digit bs
-
-abbrev pub same_text : List ℕ → List ℕ → Bool
-same_text a b = pointwise nat_eq a b

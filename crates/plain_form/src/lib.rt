@@ -4,7 +4,5 @@
 pub mod form;
 mod state;
 mod step;
-#[cfg(test)]
-mod tests;
 mod token;
 mod word;

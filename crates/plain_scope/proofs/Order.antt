@@ -8,7 +8,7 @@ use Rattle.plain_form.specs.declared.form.DataItem.{DataItem}
 use Rattle.plain_form.specs.declared.form.Written.{Written}
 use Rattle.hs_syntax.specs.Rising.{IsBefore, AreRising}
 use Rattle.plain_form.specs.Form.{places, words}
-use Rattle.plain_form.specs.Words.{same_text}
+use Rattle.mk_base.specs.Texts.{same_text}
 use Rattle.plain_scope.specs.Ordered.{AreOrdered}
 use Rattle.plain_scope.specs.Scope.{Pair, Use, Missing, Ambiguous, Found, use_at, diag_at, use_diags, field_diags, twice_diags, data_diags, datas_diags}
 

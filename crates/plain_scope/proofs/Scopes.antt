@@ -8,7 +8,7 @@ use Rattle.std.specs.List.{list_all, filter, flat_map}
 use Rattle.mk_base.specs.declared.name.Name.{Name}
 use Rattle.mk_base.specs.declared.name.Space.TheVariants.{Con, Ty}
 use Rattle.plain_form.specs.declared.form.Written.{Written}
-use Rattle.plain_form.specs.Words.{same_text}
+use Rattle.mk_base.specs.Texts.{same_text}
 use Rattle.plain_scope.specs.declared.scope.Content.{Content}
 use Rattle.plain_scope.specs.Scope.{entity, same_entity, same_space, exports_of, brought, heads, content_heads, scope, referred, Pair, Use, Missing, Ambiguous, Found, use_of, use_at}
 use Rattle.plain_scope.specs.Table.{added, with_type, with_types, with_contents}

@@ -4,12 +4,13 @@ use Rattle.std.proofs.lemmas.List.{drop_more, take_more}
 use Rattle.std.proofs.lemmas.List.Folds.{list_any-append}
 use Rattle.std.proofs.lemmas.Option.{slice_get_read}
 use Rattle.std.proofs.lemmas.Cmp.{nat_list_eq_equiv}
+use Rattle.std.specs.Option.{option_to_list}
 use Rattle.std.specs.List.{list_any}
 use Rattle.mk_base.specs.declared.diag.Diag.{Diag}
 use Rattle.plain_form.specs.declared.form.DataItem.{DataItem}
-use Rattle.plain_form.specs.Words.{same_text}
+use Rattle.mk_base.specs.Texts.{same_text}
 use Rattle.plain_scope.specs.declared.scope.Content.{Content}
-use Rattle.plain_scope.specs.Scope.{Pair, data_diags, datas_diags, one_at, contents_at}
+use Rattle.plain_scope.specs.Scope.{Pair, data_diags, datas_diags, contents_at}
 
 or_last : (a b : Bool) → cond b true a ≡ (a || (b || false))
 or_last true true = refl
@@ -40,7 +41,7 @@ pub contents_next : (contents : List Content) (imports : List ℕ) (i : ℕ) (c 
     → c ≡ get_or contents (get_or imports i 0) c → contents_at contents (drop i imports) ≡ c ∷ contents_at contents (drop (i + 1) imports)
 contents_next contents imports i c lt within is =
     ap (contents_at contents) (drop_more imports i 0 lt)
-    ∙ ap (λ o. one_at o ++ contents_at contents (drop (i + 1) imports)) (slice_get_read contents (length contents) (get_or imports i 0) c refl within is)
+    ∙ ap (λ o. option_to_list o ++ contents_at contents (drop (i + 1) imports)) (slice_get_read contents (length contents) (get_or imports i 0) c refl within is)
 
 -- the diagnostics of three parts, one behind the other
 pub three_parts : (d d1 d2 d3 a b c : List Diag) → d1 ≡ d ++ a → d2 ≡ d1 ++ b → d3 ≡ d2 ++ c → d3 ≡ d ++ (a ++ (b ++ c))

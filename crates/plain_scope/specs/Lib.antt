@@ -1,3 +1,4 @@
+pub mod Offered
 pub mod Ordered
 pub mod Scope
 pub mod Table

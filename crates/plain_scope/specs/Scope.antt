@@ -1,6 +1,7 @@
 -- Scope and diagnostics of a module (Haskell 2010 Report, chapter 5): the names in scope are pairs of a name and an entity.
 use Rattle.std.specs.Prelude.{ℕ, Bool, true, false, ◌&&◌, List, [], ◌∷◌, ◌++◌, map, slice_get, Some, None, codes, if◌then◌else◌}
 use Rattle.std.specs.declared.option.Option.{Option}
+use Rattle.std.specs.Option.{option_to_list}
 use Rattle.std.specs.List.{list_all, list_any, flat_map, filter}
 use Rattle.mk_base.specs.declared.name.Name.{Name}
 use Rattle.mk_base.specs.declared.name.Space.{Space}
@@ -14,7 +15,7 @@ use Rattle.plain_scope.specs.declared.scope.DataDecl.{DataDecl}
 use Rattle.plain_scope.specs.declared.scope.Content.{Content}
 use Rattle.plain_scope.specs.declared.scope.Checked.{Checked}
 use Rattle.plain_scope.specs.declared.scope.Checked.TheVariants.{Sound, Wrong}
-use Rattle.plain_form.specs.Words.{same_text}
+use Rattle.mk_base.specs.Texts.{same_text}
 
 abbrev pub entity : List ℕ → List ℕ → Space → List ℕ → Name
 entity unit m space text = record { unit = record { text = unit }; «module» = record { text = m }; occ = record { space = space; text = text } }
@@ -118,9 +119,5 @@ abbrev pub check_of : List ℕ → List ℕ → Written → List Content → Che
 check_of unit m w imported = with_diags (content_of unit m w imported) (scope_diags unit m w imported)
 
 -- the contents at these places
-abbrev pub one_at : Option Content → List Content
-one_at (Some c) = c ∷ []
-one_at None = []
-
 abbrev pub contents_at : List Content → List ℕ → List Content
-contents_at cs places = flat_map (λ i. one_at (slice_get cs i)) places
+contents_at cs places = flat_map (λ i. option_to_list (slice_get cs i)) places

@@ -7,7 +7,7 @@ use Rattle.indexmap.specs.IndexSet.{IndexSet, contains}
 use Rattle.mk_base.specs.declared.name.Name.{Name}
 use Rattle.mk_base.specs.declared.name.Space.TheVariants.{Ty}
 use Rattle.plain_form.specs.declared.form.DataItem.{DataItem}
-use Rattle.plain_form.specs.Words.{same_text}
+use Rattle.mk_base.specs.Texts.{same_text}
 use Rattle.plain_scope.specs.declared.lines.Seen.{Seen}
 use Rattle.plain_scope.specs.declared.scope.Content.{Content}
 use Rattle.plain_scope.specs.Scope.{entity, same_entity, content_heads, Pair, Use, Missing, Ambiguous, Found, use_at}

@@ -4,5 +4,3 @@
 mod lines;
 pub mod scope;
 mod table;
-#[cfg(test)]
-mod tests;

@@ -1,5 +1,5 @@
 use Rattle.std.proofs.Common.{◌≡◌, ◌∙◌, ℕ, List, ◌∷◌, [], ap, sym, string_bytes}
-use Rattle.plain_form.specs.Words.{same_text}
+use Rattle.mk_base.specs.Texts.{same_text}
 use Rattle.hsmake_top.proofs.Files.{exact, same_self}
 use Rattle.hsmake_top.proofs.Words.{one_word}
 use Rattle.hsmake_top.proofs.run.is_session.Goals as goal

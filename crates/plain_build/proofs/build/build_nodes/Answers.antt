@@ -6,7 +6,7 @@ use Rattle.mk_base.specs.declared.name.Node.{Node}
 use Rattle.plain_build.specs.Plain.{PlainTree, header_for}
 use Rattle.plain_build.specs.Result.{checks_in, is_checked}
 use Rattle.plain_build.specs.Done.{IsDone, judged_before, judged_next, ordered, sorted_tree}
-use Rattle.plain_build.proofs.Exits.{tree_unit}
+use Rattle.plain_build.proofs.Exits.{tree_settings, tree_unit}
 use Rattle.plain_build.proofs.Next.{before_none}
 use Rattle.plain_build.proofs.Nodes.{never_lost, source_below, source_here, header_here}
 use Rattle.plain_build.proofs.Seen.{planned_few}
@@ -48,6 +48,9 @@ pub build_node-requires-clause-plan : goal.build_node-requires-clause-plan
 build_node-requires-clause-plan g c =
     let plan = planned_tree (sorted_tree c.args.input.now) c.args.graph.now c.order.result.now c.requires.standing c.requires.graph c.order.ensures.is c.order.ensures.order in
     plan
+
+pub build_node-requires-clause-settings : goal.build_node-requires-clause-settings
+build_node-requires-clause-settings g c = tree_settings c.args.input.now _ c.in_ok-copy.ensures
 
 pub build_node-requires-clause-source : goal.build_node-requires-clause-source
 build_node-requires-clause-source g c =

@@ -6,12 +6,13 @@ use Rattle.mk_base.specs.declared.place.NodeId.{NodeId}
 use Rattle.face_model.specs.declared.result.How.TheVariants as how
 use Rattle.build_theory.proofs.Lists.{clash}
 use Rattle.mod_graph.specs.Graph.{errors_by}
-use Rattle.plain_build.specs.Plain.{PlainTree, graph_errors, input_of, is_told}
+use Rattle.unbuilt_forms.specs.Unbuilt.{is_told}
+use Rattle.plain_build.specs.Plain.{PlainTree, graph_errors, input_of}
 use Rattle.plain_build.specs.Result.{is_checked}
 use Rattle.plain_build.specs.Steps as steps_spec
 use Rattle.plain_build.specs.Kept.{empty_content, result_of}
 use Rattle.plain_build.specs.Done.{IsDone, judged_next, sorted_tree}
-use Rattle.plain_build.proofs.Exits.{first_kept, graph_told, none_told, graph_needs, none_ticked, on_one, on_three, one_ticked, place_below}
+use Rattle.plain_build.proofs.Exits.{first_kept, graph_told, none_told, graph_needs, none_ticked, on_two, on_three, one_ticked, place_below}
 use Rattle.plain_build.proofs.Next.{next_graph, next_blocked, next_free}
 use Rattle.plain_build.proofs.node.build_node.Goals as goal
 
@@ -72,6 +73,9 @@ returns-in-Some g c =
 pub build_checked-requires-clause-plan : goal.build_checked-requires-clause-plan
 build_checked-requires-clause-plan g c = c.requires.plan
 
+pub build_checked-requires-clause-settings : goal.build_checked-requires-clause-settings
+build_checked-requires-clause-settings g c = c.requires.settings
+
 pub build_checked-requires-clause-source : goal.build_checked-requires-clause-source
 build_checked-requires-clause-source g c = c.requires.source
 
@@ -101,8 +105,9 @@ returns g c =
     let t : PlainTree = sorted_tree c.args.plan.now.input.now in
     let a : Node × List ℕ = (c.args.source.now.node, c.args.source.now.bytes.now) in
     let k : ℕ = is_checked (judged_next t a c.args.place).how in
+    let new : ℕ = c.build_checked.new.steps in
     record {
       done = c.build_checked.ensures.done;
-      checks = on_one c.build_checked.result (k ≡ 1) (c.tick.new.self ≡ c.args.steps.now + k) (λ e. one_ticked c.args.steps.now c.tick.new.self k c.tick.ensures e) c.build_checked.ensures.checked;
-      later = let e : c.tick.new.self ≡ c.args.steps.now + 1 = c.tick.ensures in omega arith;
+      checks = on_two c.build_checked.result (k ≡ 1) (new ≡ c.args.steps.now + 1) (new ≡ c.args.steps.now + k) (λ e f. one_ticked c.args.steps.now new k f e) c.build_checked.ensures.checked c.build_checked.ensures.ticked;
+      later = c.build_checked.ensures.later;
     }

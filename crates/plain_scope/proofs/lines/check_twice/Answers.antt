@@ -1,5 +1,5 @@
 use Rattle.indexmap.specs.IndexSet.{contains}
-use Rattle.plain_form.specs.Words.{same_text}
+use Rattle.mk_base.specs.Texts.{same_text}
 use Rattle.plain_scope.proofs.Steps.{seen_next}
 use Rattle.plain_scope.proofs.lines.check_twice.Goals as goal
 

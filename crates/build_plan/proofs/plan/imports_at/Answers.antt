@@ -1,0 +1,16 @@
+use Rattle.std.proofs.Common.{◌≡◌, ℕ, ◌<◌, List, length, refl, sym, ap, ◌∙◌, subst, Some, arith}
+use Rattle.std.specs.Prelude.{slice_get}
+use Rattle.std.proofs.lemmas.Option.{slice_get_read}
+use Rattle.mk_base.specs.declared.name.Node.{Node}
+use Rattle.hs_syntax.specs.declared.header.ImportItem.{ImportItem}
+use Rattle.build_plan.specs.Steps.{import_places}
+use Rattle.build_plan.specs.Tree.{SourceTree, imports_of, input_of, nodes_of, ordered}
+use Rattle.build_plan.proofs.Planning.{plan_count, header_within, imports_are}
+use Rattle.build_plan.proofs.Seen.{planned_few}
+use Rattle.build_plan.proofs.plan.imports_at.Goals as goal
+
+pub seen_places-requires-clause-few : goal.seen_places-requires-clause-few
+seen_places-requires-clause-few c = planned_few c.requires.plan.0 c.args.plan.now.graph c.requires.plan.1.graph
+
+pub seen_places-requires-clause-place : goal.seen_places-requires-clause-place
+seen_places-requires-clause-place c = let count = plan_count c.requires.plan.0 c.args.plan.now c.requires.plan.1 in let lt = c.requires.place in omega (arith, count, lt)

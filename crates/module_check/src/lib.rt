@@ -1,0 +1,5 @@
+//! One module through its stages.
+#![tactic(auto)]
+
+pub mod check;
+mod items;

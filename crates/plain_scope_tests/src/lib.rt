@@ -1,0 +1,5 @@
+//! Tests of the scope of a module.
+#![tactic(auto)]
+
+#[cfg(test)]
+mod modules;
