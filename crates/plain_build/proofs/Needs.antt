@@ -14,7 +14,7 @@ use Rattle.mk_base.specs.declared.diag.Diag.{Diag}
 use Rattle.build_theory.specs.Build.{Outcome, outcomes, is_sound, is_need, is_sound_in, first_bad}
 use Rattle.build_theory.specs.Laws.{IsIn, AreDistinct}
 use Rattle.build_theory.proofs.Lists.{both_ways, differ, clash, all_at, look_yes, look_no}
-use Rattle.number_set.proofs.Booleans.{is_same, is_other}
+use Rattle.numbered_nodes.proofs.Booleans.{is_same, is_other}
 use Rattle.mod_graph.specs.Names.{same_node}
 use Rattle.numbered_nodes.specs.Chains.{below}
 use Rattle.mod_graph.specs.Edges.{needs_node}

@@ -19,7 +19,7 @@ use Rattle.build_theory.proofs.Lists.{both_ways, all_at, all_map, in_shuffled, s
 use Rattle.build_theory.proofs.Files.{distinct_shuffled}
 use Rattle.build_theory.proofs.Fold.{results_app}
 use Rattle.build_theory.proofs.Whole.{order_is_whole}
-use Rattle.number_set.proofs.Booleans.{is_other}
+use Rattle.numbered_nodes.proofs.Booleans.{is_other}
 use Rattle.mod_graph.specs.Names.{same_node}
 use Rattle.mod_graph.specs.Edges.{needs_node}
 use Rattle.mod_graph.specs.Graph.{Tree, entries, ids, needs_in, needs_place, view_of, errors_by}

@@ -8,7 +8,7 @@ use Rattle.std.proofs.lemmas.Bool.{lt-ltb}
 use Rattle.mk_base.specs.declared.name.Node.{Node}
 use Rattle.mk_base.specs.declared.diag.Diag.{Diag}
 use Rattle.hs_syntax.specs.declared.header.ImportItem.{ImportItem}
-use Rattle.number_set.proofs.Booleans.{both_ways, split_or, or_right, is_same}
+use Rattle.numbered_nodes.proofs.Booleans.{both_ways, split_or, or_right, is_same}
 use Rattle.mod_graph.specs.declared.entries.Entry.{Entry}
 use Rattle.mod_graph.specs.Names.{node_named}
 use Rattle.numbered_nodes.specs.Chains.{over, any_below}
