@@ -1,4 +1,0 @@
-pub mod Files
-pub mod Plan
-pub mod Steps
-pub mod Tree

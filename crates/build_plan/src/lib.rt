@@ -1,8 +1,0 @@
-//! Plans of builds: the nodes of a tree in their order, with their sources, their headers and what their graph tells.
-#![tactic(auto)]
-
-mod headers;
-mod places;
-pub mod plan;
-mod seen;
-mod sources;
