@@ -3,11 +3,6 @@ ghost use Rattle.std.specs.Prelude.{◌≡◌, ◌<◌, ◌^◌, IfOk, length};
 ghost use Rattle.mod_graph.specs.Graph.{AreDistinct};
 ghost use Rattle.mod_graph.specs.Names.{node_named};
 
-use mod_graph::edges::{module_edges, modules_of, node_edges};
-use mod_graph::entries::{Entry, entries_of};
-use mod_graph::input::HeaderOf;
-use mod_graph::places::numbers_of;
-use mod_graph::prelude::with_prelude;
 use hs_syntax::header::{Header, ImportItem};
 use hs_syntax::name_ref::NameRef;
 use mk_base::list::List;
@@ -16,6 +11,11 @@ use mk_base::name::{ModName, Node};
 use mk_base::place::Pos;
 use mk_base::plain::Plain;
 use mk_base::text::Text;
+use mod_graph::edges::{module_edges, modules_of, node_edges};
+use mod_graph::entries::{Entry, entries_of};
+use mod_graph::input::HeaderOf;
+use mod_graph::places::numbers_of;
+use mod_graph::prelude::with_prelude;
 use std::alloc::Global;
 use std::test::Fail;
 
