@@ -19,10 +19,10 @@ check-requires-clause-source g c =
     short_source (sorted_tree c.args.plan.now.input.now) c.requires.plan.standing c.args.place (c.args.source.now.node, c.args.source.now.bytes.now) c.requires.source c.requires.free.no_errors
 
 pub seen_places-requires-clause-plan : goal.seen_places-requires-clause-plan
-seen_places-requires-clause-plan c = c.requires.plan
+seen_places-requires-clause-plan g c = c.requires.plan
 
 pub seen_places-requires-clause-place : goal.seen_places-requires-clause-place
-seen_places-requires-clause-place c = place_below (sorted_tree c.args.plan.now.input.now) c.args.plan.now.graph.now c.args.place (c.args.source.now.node, c.args.source.now.bytes.now) c.requires.plan c.requires.source
+seen_places-requires-clause-place g c = place_below (sorted_tree c.args.plan.now.input.now) c.args.plan.now.graph.now c.args.place (c.args.source.now.node, c.args.source.now.bytes.now) c.requires.plan c.requires.source
 
 pub check-requires-clause-within : goal.check-requires-clause-within
 check-requires-clause-within g c =
@@ -51,7 +51,7 @@ put_sound-requires-clause-sound g c =
     let unit : c.as_slice-unit.result.now ≡ t.settings.unit = c.as_slice-unit.ensures ∙ sym (tree_unit c.args.plan.now.input.now) in
     let given : List Content = contents_at old.contents.items (import_places (input_of t) (nodes_of (ordered t)) c.args.place (imports_of t.settings a.0 a.1)) in
     let told : ok_content c.in-Ok.content ≡ check (check_settings t.settings) a.0 a.1 given =
-    sym c.in-Ok.is ∙ given_is c.in_ok-content.field-0 _ _ _ _ _ _ _ _ c.in_ok-content.ensures c.requires.settings c.as_slice-contents.ensures.value places in
+    sym c.in-Ok.is ∙ given_is c.in_ok-content.field-0 _ _ _ _ _ _ _ _ c.in_ok-content.ensures.check c.requires.settings c.as_slice-contents.ensures.value places in
     subst (λ (u : List ℕ). IsSound u c.in-Ok.content) (sym unit) (has_interface t c.requires.plan.standing c.args.place a c.requires.source old c.requires.done c.requires.free c.in-Ok.content told).0
 
 pub put_sound-requires-clause-fits : goal.put_sound-requires-clause-fits
@@ -67,11 +67,11 @@ put_sound-requires-clause-fits g c =
     let unit : c.as_slice-unit.result.now ≡ t.settings.unit = c.as_slice-unit.ensures ∙ sym (tree_unit c.args.plan.now.input.now) in
     let given : List Content = contents_at old.contents.items (import_places (input_of t) (nodes_of (ordered t)) c.args.place (imports_of t.settings a.0 a.1)) in
     let told : ok_content c.in-Ok.content ≡ check (check_settings t.settings) a.0 a.1 given =
-    sym c.in-Ok.is ∙ given_is c.in_ok-content.field-0 _ _ _ _ _ _ _ _ c.in_ok-content.ensures c.requires.settings c.as_slice-contents.ensures.value places in
+    sym c.in-Ok.is ∙ given_is c.in_ok-content.field-0 _ _ _ _ _ _ _ _ c.in_ok-content.ensures.check c.requires.settings c.as_slice-contents.ensures.value places in
     subst (λ (u : List ℕ). Fits u c.in-Ok.content) (sym unit) (has_interface t c.requires.plan.standing c.args.place a c.requires.source old c.requires.done c.requires.free c.in-Ok.content told).1
 
-pub returns-in-Ok : goal.returns-in-Ok
-returns-in-Ok g c =
+pub returns-in-Ok-clause-done : goal.returns-in-Ok-clause-done
+returns-in-Ok-clause-done g c =
     let t : PlainTree = sorted_tree c.args.plan.now.input.now in
     let a : Node × List ℕ = (c.args.source.now.node, c.args.source.now.bytes.now) in
     let g = c.args.plan.now.graph.now in
@@ -83,20 +83,39 @@ returns-in-Ok g c =
     let unit : c.as_slice-unit.result.now ≡ t.settings.unit = c.as_slice-unit.ensures ∙ sym (tree_unit c.args.plan.now.input.now) in
     let given : List Content = contents_at old.contents.items (import_places (input_of t) (nodes_of (ordered t)) c.args.place (imports_of t.settings a.0 a.1)) in
     let told : ok_content c.in-Ok.content ≡ check (check_settings t.settings) a.0 a.1 given =
-    sym c.in-Ok.is ∙ given_is c.in_ok-content.field-0 _ _ _ _ _ _ _ _ c.in_ok-content.ensures c.requires.settings c.as_slice-contents.ensures.value places in
+    sym c.in-Ok.is ∙ given_is c.in_ok-content.field-0 _ _ _ _ _ _ _ _ c.in_ok-content.ensures.check c.requires.settings c.as_slice-contents.ensures.value places in
     let new = c.put_sound.new.done in
     let exit = next_sound t c.requires.plan.standing c.args.place a c.requires.source old c.requires.done c.requires.free new c.in-Ok.content told in
     let R : Type 0 = HasSound c.as_slice-unit.result.now a.0 c.in-Ok.content old.results new.results in
     let C : Type 0 = new.contents.items ≡ old.contents.items ++ c.in-Ok.content ∷ [] in
     let B : Type 0 = new.sound.items ≡ old.sound.items ++ true ∷ [] in
     let own : R → HasSound t.settings.unit a.0 c.in-Ok.content old.results new.results = λ r. subst (λ (u : List ℕ). HasSound u a.0 c.in-Ok.content old.results new.results) unit r in
-    record {
-      done = on_three c.put_sound.result R C B (IsDone t new (c.args.place + 1)) (λ r x y. (exit (own r) x y).0) c.put_sound.ensures.results c.put_sound.ensures.contents c.put_sound.ensures.kept;
-      checked = on_three c.put_sound.result R C B (is_checked (judged_next t a c.args.place).how ≡ 1) (λ r x y. (exit (own r) x y).1) c.put_sound.ensures.results c.put_sound.ensures.contents c.put_sound.ensures.kept;
-    }
+    on_three c.put_sound.result R C B (IsDone t new (c.args.place + 1)) (λ r x y. (exit (own r) x y).0) c.put_sound.ensures.results c.put_sound.ensures.contents c.put_sound.ensures.kept
 
-pub returns : goal.returns
-returns g c =
+pub returns-in-Ok-clause-checked : goal.returns-in-Ok-clause-checked
+returns-in-Ok-clause-checked g c =
+    let t : PlainTree = sorted_tree c.args.plan.now.input.now in
+    let a : Node × List ℕ = (c.args.source.now.node, c.args.source.now.bytes.now) in
+    let g = c.args.plan.now.graph.now in
+    let old = c.args.done.now in
+    let imports : c.as_slice.result.now ≡ imports_of t.settings a.0 a.1 =
+    header_imports c.args.plan.now.input.now c.args.header.now.header a c.as_slice.result.now (c.as_slice.ensures ∙ c.in_ok-imports.ensures) c.requires.header in
+    let places : c.as_slice-2.result.now ≡ import_places (input_of t) (nodes_of (ordered t)) c.args.place (imports_of t.settings a.0 a.1) =
+    tree_places t g c.args.place a c.as_slice.result.now c.as_slice-2.result.now c.requires.plan (c.as_slice-2.ensures.value ∙ c.in_ok-places.ensures) imports in
+    let unit : c.as_slice-unit.result.now ≡ t.settings.unit = c.as_slice-unit.ensures ∙ sym (tree_unit c.args.plan.now.input.now) in
+    let given : List Content = contents_at old.contents.items (import_places (input_of t) (nodes_of (ordered t)) c.args.place (imports_of t.settings a.0 a.1)) in
+    let told : ok_content c.in-Ok.content ≡ check (check_settings t.settings) a.0 a.1 given =
+    sym c.in-Ok.is ∙ given_is c.in_ok-content.field-0 _ _ _ _ _ _ _ _ c.in_ok-content.ensures.check c.requires.settings c.as_slice-contents.ensures.value places in
+    let new = c.put_sound.new.done in
+    let exit = next_sound t c.requires.plan.standing c.args.place a c.requires.source old c.requires.done c.requires.free new c.in-Ok.content told in
+    let R : Type 0 = HasSound c.as_slice-unit.result.now a.0 c.in-Ok.content old.results new.results in
+    let C : Type 0 = new.contents.items ≡ old.contents.items ++ c.in-Ok.content ∷ [] in
+    let B : Type 0 = new.sound.items ≡ old.sound.items ++ true ∷ [] in
+    let own : R → HasSound t.settings.unit a.0 c.in-Ok.content old.results new.results = λ r. subst (λ (u : List ℕ). HasSound u a.0 c.in-Ok.content old.results new.results) unit r in
+    on_three c.put_sound.result R C B (is_checked (judged_next t a c.args.place).how ≡ 1) (λ r x y. (exit (own r) x y).1) c.put_sound.ensures.results c.put_sound.ensures.contents c.put_sound.ensures.kept
+
+pub returns-clause-done : goal.returns-clause-done
+returns-clause-done g c =
     let t : PlainTree = sorted_tree c.args.plan.now.input.now in
     let a : Node × List ℕ = (c.args.source.now.node, c.args.source.now.bytes.now) in
     let g = c.args.plan.now.graph.now in
@@ -108,14 +127,33 @@ returns g c =
     let unit : c.as_slice-unit.result.now ≡ t.settings.unit = c.as_slice-unit.ensures ∙ sym (tree_unit c.args.plan.now.input.now) in
     let given : List Content = contents_at old.contents.items (import_places (input_of t) (nodes_of (ordered t)) c.args.place (imports_of t.settings a.0 a.1)) in
     let told : err_diags c.in-Err.diags ≡ check (check_settings t.settings) a.0 a.1 given =
-    sym c.in-Err.is ∙ given_is c.in_ok-content.field-0 _ _ _ _ _ _ _ _ c.in_ok-content.ensures c.requires.settings c.as_slice-contents.ensures.value places in
+    sym c.in-Err.is ∙ given_is c.in_ok-content.field-0 _ _ _ _ _ _ _ _ c.in_ok-content.ensures.check c.requires.settings c.as_slice-contents.ensures.value places in
     let new = c.put_unsound.new.done in
     let exit = next_wrong t c.requires.plan.standing c.args.place a c.requires.source old c.requires.done c.requires.free new c.in-Err.diags told in
     let R : Type 0 = new.results ≡ old.results ++ result_of a.0 c.how_checked.result c.in-Err.diags None ∷ [] in
     let C : Type 0 = new.contents.items ≡ old.contents.items ++ empty_content ∷ [] in
     let B : Type 0 = new.sound.items ≡ old.sound.items ++ false ∷ [] in
     let own : R → new.results ≡ old.results ++ result_of a.0 checked_how c.in-Err.diags None ∷ [] = λ r. r ∙ ap (λ h. old.results ++ result_of a.0 h c.in-Err.diags None ∷ []) c.how_checked.ensures in
-    record {
-      done = on_three c.put_unsound.result R C B (IsDone t new (c.args.place + 1)) (λ r x y. (exit (own r) x y).0) c.put_unsound.ensures.results c.put_unsound.ensures.contents c.put_unsound.ensures.sound;
-      checked = on_three c.put_unsound.result R C B (is_checked (judged_next t a c.args.place).how ≡ 1) (λ r x y. (exit (own r) x y).1) c.put_unsound.ensures.results c.put_unsound.ensures.contents c.put_unsound.ensures.sound;
-    }
+    on_three c.put_unsound.result R C B (IsDone t new (c.args.place + 1)) (λ r x y. (exit (own r) x y).0) c.put_unsound.ensures.results c.put_unsound.ensures.contents c.put_unsound.ensures.sound
+
+pub returns-clause-checked : goal.returns-clause-checked
+returns-clause-checked g c =
+    let t : PlainTree = sorted_tree c.args.plan.now.input.now in
+    let a : Node × List ℕ = (c.args.source.now.node, c.args.source.now.bytes.now) in
+    let g = c.args.plan.now.graph.now in
+    let old = c.args.done.now in
+    let imports : c.as_slice.result.now ≡ imports_of t.settings a.0 a.1 =
+    header_imports c.args.plan.now.input.now c.args.header.now.header a c.as_slice.result.now (c.as_slice.ensures ∙ c.in_ok-imports.ensures) c.requires.header in
+    let places : c.as_slice-2.result.now ≡ import_places (input_of t) (nodes_of (ordered t)) c.args.place (imports_of t.settings a.0 a.1) =
+    tree_places t g c.args.place a c.as_slice.result.now c.as_slice-2.result.now c.requires.plan (c.as_slice-2.ensures.value ∙ c.in_ok-places.ensures) imports in
+    let unit : c.as_slice-unit.result.now ≡ t.settings.unit = c.as_slice-unit.ensures ∙ sym (tree_unit c.args.plan.now.input.now) in
+    let given : List Content = contents_at old.contents.items (import_places (input_of t) (nodes_of (ordered t)) c.args.place (imports_of t.settings a.0 a.1)) in
+    let told : err_diags c.in-Err.diags ≡ check (check_settings t.settings) a.0 a.1 given =
+    sym c.in-Err.is ∙ given_is c.in_ok-content.field-0 _ _ _ _ _ _ _ _ c.in_ok-content.ensures.check c.requires.settings c.as_slice-contents.ensures.value places in
+    let new = c.put_unsound.new.done in
+    let exit = next_wrong t c.requires.plan.standing c.args.place a c.requires.source old c.requires.done c.requires.free new c.in-Err.diags told in
+    let R : Type 0 = new.results ≡ old.results ++ result_of a.0 c.how_checked.result c.in-Err.diags None ∷ [] in
+    let C : Type 0 = new.contents.items ≡ old.contents.items ++ empty_content ∷ [] in
+    let B : Type 0 = new.sound.items ≡ old.sound.items ++ false ∷ [] in
+    let own : R → new.results ≡ old.results ++ result_of a.0 checked_how c.in-Err.diags None ∷ [] = λ r. r ∙ ap (λ h. old.results ++ result_of a.0 h c.in-Err.diags None ∷ []) c.how_checked.ensures in
+    on_three c.put_unsound.result R C B (is_checked (judged_next t a c.args.place).how ≡ 1) (λ r x y. (exit (own r) x y).1) c.put_unsound.ensures.results c.put_unsound.ensures.contents c.put_unsound.ensures.sound
