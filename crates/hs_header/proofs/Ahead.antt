@@ -25,7 +25,7 @@ use Rattle.hs_header.specs.declared.state.Turn.TheVariants.{On}
 use Rattle.hs_header.specs.Names.{name_ref, module_ref}
 use Rattle.hs_header.specs.Terminals.{terminal_of}
 use Rattle.mk_base.specs.Places.{first_place}
-use Rattle.hs_header.specs.Machine.{ended, step_at, main_export, with_name, with_export, with_exports, with_item, with_list, with_alias, listed, import_of, export_of, item_of}
+use Rattle.hs_header.specs.Machine.{ended, step_at, main_export, with_name, with_export, with_exports, with_item, with_alias, import_of, export_of, item_of}
 use Rattle.hs_header.specs.Machine as machine
 use Rattle.hs_header.specs.Grammar.{Leaf, Read, read_all}
 use Rattle.hs_header.proofs.States.{st}

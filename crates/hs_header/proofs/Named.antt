@@ -1,7 +1,6 @@
 -- The words of a pragma for LANGUAGE are the names that the lexer finds in it.
 use Rattle.std.specs.Prelude.{codes, map, encode_utf8_all}
-use Rattle.std.specs.Char.{to_ascii_lowercase}
-use Rattle.std.proofs.Common.{◌≡◌, ⊎_elim, ℕ, true, false, List, [], ◌∷◌, ◌++◌, None, refl, ap, ◌∙◌}
+use Rattle.std.proofs.Common.{◌≡◌, ⊎_elim, ℕ, false, List, [], ◌∷◌, ◌++◌, None, refl, ap, ◌∙◌}
 use Rattle.mk_base.specs.Classes.{class_of as class_of_char}
 use Rattle.source_text.specs.Places.{step, after}
 use Rattle.source_text.specs.declared.place.Place.{Place}

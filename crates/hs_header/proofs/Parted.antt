@@ -1,19 +1,16 @@
 -- A lexeme's qualifier and name are the parts that the lexer finds in it.
 use Rattle.std.specs.Prelude.{map, encode_utf8_all, if◌then◌else◌}
 use Rattle.std.specs.Char.{IsScalar, encode_utf8}
-use Rattle.std.proofs.Common.{◌≡◌, ◌⊎◌, inl, inr, ⊎_elim, ℕ, ◌+◌, ◌-◌, ◌*◌, ◌/◌, ◌%◌, ◌<◌, ◌≤◌, Bool, true, false, nat_eq, nat_lt, cond, List, [], ◌∷◌, ◌++◌, length, take, None, refl, sym, ap, subst, ◌∙◌, arith, append_assoc, take_all}
+use Rattle.std.proofs.Common.{◌≡◌, ◌⊎◌, inl, inr, ⊎_elim, ℕ, ◌+◌, ◌-◌, ◌/◌, ◌%◌, ◌≤◌, Bool, true, false, nat_eq, nat_lt, cond, List, [], ◌∷◌, ◌++◌, length, refl, sym, ap, subst, ◌∙◌, arith, append_assoc, take_all}
 use Rattle.std.proofs.lemmas.List.{append-nil}
-use Rattle.std.proofs.lemmas.Bool.{false≢true, cond-true, cond-false, eqb-true, cases_Bool}
+use Rattle.std.proofs.lemmas.Bool.{false≢true, cond-false, eqb-true, cases_Bool}
 use Rattle.std.proofs.lemmas.Bool.Decides.{nat_tests}
 use Rattle.mk_base.specs.Classes.{class_of as class_of_char}
 use Rattle.source_text.specs.Characters.{characters, AllCharacters, no_character}
 use Rattle.source_text.proofs.Characters.{none}
 use Rattle.source_text.proofs.Widths.{text_bytes, reads_first}
-use Rattle.hs_syntax.specs.declared.token.Token.{Token}
-use Rattle.hs_syntax.specs.declared.name_ref.NameRef.{NameRef}
 use Rattle.hs_lex.specs.declared.class.Class.{Class}
 use Rattle.hs_lex.specs.declared.class.Class.TheVariants as class
-use Rattle.hs_lex.specs.declared.class.Part.{Part}
 use Rattle.hs_lex.specs.declared.class.Part.TheVariants as part
 use Rattle.hs_lex.specs.Classes.{class_of, in_part, is_character}
 use Rattle.hs_lex.specs.Reading.{AllIn}

@@ -10,9 +10,9 @@ use Rattle.hs_header.specs.declared.state.Stage.TheVariants as stage
 use Rattle.hs_header.specs.declared.state.Known.{Known}
 use Rattle.hs_header.specs.declared.state.State.{State}
 use Rattle.hs_header.specs.Terminals.{terminal_of}
-use Rattle.hs_header.specs.Machine.{start, main_header, main_export, begun, ends, at_start, at_name, at_name_read, at_where, at_open, at_body, at_list_read, with_name, with_exports, with_import}
+use Rattle.hs_header.specs.Machine.{start, main_header, main_export, begun, ends, at_start, at_name, at_name_read, at_where, at_open, at_body, at_list_read, with_exports, with_import}
 use Rattle.hs_header.specs.Machine as machine
-use Rattle.hs_header.specs.Grammar.{Leaf, ConLeaf, PlainCon, DottedCon, ImportLine, Block, NoMore, Gap, Last, Then, Exports, NoExports, Listed, Front, NoLine, Line, con_token, import_tokens, block_tokens, exports_tokens, front_tokens, import_tree, block_trees, exports_tree, header_of, is_put, MayFollow, IsHeader, Read, turned, read_all}
+use Rattle.hs_header.specs.Grammar.{Leaf, ConLeaf, PlainCon, DottedCon, ImportLine, Block, NoMore, Gap, Last, Then, Exports, NoExports, Listed, NoLine, Line, con_token, import_tokens, block_tokens, exports_tokens, import_tree, block_trees, exports_tree, MayFollow, IsHeader, Read, turned, read_all}
 use Rattle.hs_header.proofs.States.{st, onto, opened, closed}
 use Rattle.hs_header.proofs.ExportsFound.{ExportsFound, exports_found}
 use Rattle.hs_header.proofs.ImportsFound.{LineFound, line_found}

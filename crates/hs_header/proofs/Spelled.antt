@@ -16,7 +16,7 @@ use Rattle.hs_header.specs.declared.state.Known.{Known}
 use Rattle.hs_header.specs.declared.state.Turn.TheVariants.{Whole}
 use Rattle.hs_header.specs.Names.{name_ref, module_ref}
 use Rattle.hs_header.specs.Terminals.{terminal_of}
-use Rattle.hs_header.specs.Machine.{start, step, ended, step_at, ends, begun, at_body, at_former_read, behind_former, at_alias_read, at_import_read, at_list_read, with_export, with_exports, with_import, with_item, main_export}
+use Rattle.hs_header.specs.Machine.{start, step, ended, ends, begun, at_body, at_alias_read, at_import_read, at_list_read, with_exports, with_import, with_item}
 use Rattle.hs_header.specs.Machine as machine
 use Rattle.hs_header.specs.Grammar.{Leaf, Variable, ConLeaf, More, ListEnd, CommaEnd, ListMore, Listing, Empty, Lone, Items, Item, ItemVar, ItemOp, ItemType, Lists, Unlisted, Meant, Hidden, Alias, NoAlias, Called, Flags, NoFlag, Sourced, Dotted, BothFlags, ImportLine, ImportOf, Block, NoMore, Gap, Last, Then, Exports, NoExports, Listed, Front, NoLine, Line, con_token, told_tokens, more_tokens, listing_tokens, export_tokens, item_tokens, lists_tokens, alias_tokens, flags_tokens, import_tokens, block_tokens, exports_tokens, front_tokens, more_trees, listing_trees, export_tree, item_tree, lists_tree, alias_tree, import_tree, block_trees, exports_tree, header_of, is_put, MayFollow, IsHeader, Read, turned, read_all}
 use Rattle.hs_header.proofs.States.{st}

@@ -1,5 +1,5 @@
 -- The tokens that the grammar of headers tells apart.
-use Rattle.std.specs.Prelude.{ℕ, Bool, true, false, List, Some, None, codes, if◌then◌else◌}
+use Rattle.std.specs.Prelude.{ℕ, true, false, List, Some, None, codes, if◌then◌else◌}
 use Rattle.std.specs.declared.option.Option.{Option}
 use Rattle.mk_base.specs.Texts.{same_text}
 use Rattle.hs_syntax.specs.declared.token.Token.{Token}

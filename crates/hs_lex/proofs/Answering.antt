@@ -1,7 +1,7 @@
 -- What stands behind a cursor is one of three.
 use Rattle.std.specs.Bool.{Decides}
 use Rattle.std.specs.Prelude.{Option, Some, None}
-use Rattle.std.proofs.Common.{◌≡◌, ◌⊎◌, inl, inr, ℕ, zero, suc, ◌<◌, Bool, true, false, List, [], ◌∷◌, ◌++◌, length, refl, ap, sym, ◌∙◌, subst, arith}
+use Rattle.std.proofs.Common.{◌≡◌, inl, inr, ℕ, zero, suc, ◌<◌, Bool, true, false, List, [], ◌∷◌, ◌++◌, length, refl, ap, sym, ◌∙◌, subst, arith}
 use Rattle.std.proofs.lemmas.Bool.{false≢true}
 use Rattle.mk_base.specs.declared.place.Pos.{Pos}
 use Rattle.hs_syntax.specs.declared.token.Token.{Token}
@@ -12,7 +12,7 @@ use Rattle.hs_lex.specs.Lexemes.{is_nil}
 use Rattle.hs_lex.specs.Items.{NoItem}
 use Rattle.hs_lex.specs.Answers.{IsAnswered, AnswersExclude}
 use Rattle.hs_lex.specs.Slow.{item_at, turn_over, Lexed, put_first, lexemes_from}
-use Rattle.hs_lex.specs.Tokens.{position, ahead, tokens_at, token_at, IsRead, IsNext, IsBlank, IsBadFrom}
+use Rattle.hs_lex.specs.Tokens.{position, ahead, tokens_at, token_at, IsRead}
 use Rattle.hs_lex.proofs.Decided.{nil_decides}
 use Rattle.hs_lex.proofs.Reached.{read_none}
 use Rattle.hs_lex.proofs.Kept.{next_kept, blank_kept, bad_kept}

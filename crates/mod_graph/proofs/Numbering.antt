@@ -1,17 +1,15 @@
 -- The numbers of nodes and of modules.
-use Rattle.std.proofs.Common.{◌≡◌, ℕ, zero, suc, ◌+◌, ◌<◌, ◌≤◌, Bool, true, List, [], ◌∷◌, length, get_or, Some, None, refl, ap, sym, ◌∙◌, subst, inl, inr, arith}
-use Rattle.std.specs.declared.option.Option.{Option}
+use Rattle.std.proofs.Common.{◌≡◌, ℕ, zero, suc, ◌+◌, ◌<◌, ◌≤◌, Bool, true, List, [], ◌∷◌, length, get_or, Some, refl, ap, sym, ◌∙◌, subst, inl, inr, arith}
 use Rattle.std.specs.Option.{option_map_or, unwrap_or}
 use Rattle.std.specs.List.{slice_get, list_any, position, position_or_len}
 use Rattle.std.proofs.lemmas.Bool.{lt-ltb}
 use Rattle.std.proofs.lemmas.List.Quantifiers.{position-Some}
 use Rattle.std.proofs.lemmas.Option.{slice_get-get_or, slice_get_within, same_Some}
 use Rattle.mk_base.specs.declared.name.Node.{Node}
-use Rattle.numbered_nodes.proofs.Booleans.{both_ways, split_or, or_right, is_same, from_test}
+use Rattle.numbered_nodes.proofs.Booleans.{both_ways, split_or, or_right}
 use Rattle.mod_graph.specs.declared.entries.Entry.{Entry}
 use Rattle.mod_graph.specs.Names.{same_text, same_node}
-use Rattle.mod_graph.specs.Edges.{is_at, number_of, module_number, module_of}
-use Rattle.numbered_nodes.proofs.Below.{is_at_is, is_at_own}
+use Rattle.mod_graph.specs.Edges.{number_of, module_number, module_of}
 use Rattle.numbered_nodes.proofs.Chains.{or_left}
 use Rattle.mod_graph.proofs.NodeTests.{texts_tell, text_itself}
 

@@ -1,12 +1,10 @@
 -- The parts of a graph, by place.
-use Rattle.std.proofs.Common.{◌≡◌, ℕ, Bool, suc, ◌+◌, ◌<◌, ◌≤◌, List, [], ◌∷◌, get_or, length, map, Some, refl, ap, sym, ◌∙◌, subst, arith}
+use Rattle.std.proofs.Common.{◌≡◌, ℕ, Bool, suc, ◌+◌, ◌<◌, List, [], ◌∷◌, get_or, length, map, Some, refl, ap, sym, ◌∙◌, subst, arith}
 use Rattle.std.specs.List.{All, range_with_len, slice_get}
 use Rattle.std.specs.Option.{option_map, option_map_or}
 use Rattle.std.proofs.lemmas.List.FromFn.{get_or-map-range_with_len}
 use Rattle.std.proofs.lemmas.Option.{slice_get-map, slice_get-get_or}
 use Rattle.mk_base.specs.declared.name.Node.{Node}
-use Rattle.mk_base.specs.declared.place.NodeId.{NodeId}
-use Rattle.mk_base.specs.declared.diag.Diag.{Diag}
 use Rattle.mod_graph.specs.declared.entries.Entry.{Entry}
 use Rattle.package_graph.specs.declared.modules.PackageModule.{PackageModule}
 use Rattle.mod_graph.specs.declared.lists.Lists.{Lists}
@@ -17,7 +15,7 @@ use Rattle.mod_graph.specs.declared.input.HeaderOf.{HeaderOf}
 use Rattle.mod_graph.specs.Names.{less_node}
 use Rattle.mod_graph.specs.Entries.{by_node, counted, entries_from, entries_of, insert}
 use Rattle.numbered_nodes.specs.Chains.{below}
-use Rattle.mod_graph.specs.Edges.{number_of, needs}
+use Rattle.mod_graph.specs.Edges.{number_of}
 use Rattle.mod_graph.specs.Errors.{errors_of}
 use Rattle.mod_graph.specs.Graph.{Input, AreDistinct, entries, errors_by, ids, in_environment, needs_in, nodes_at, reached_by}
 use Rattle.mod_graph.specs.Parts.{AreLists, AreParts}

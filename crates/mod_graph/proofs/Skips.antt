@@ -1,12 +1,10 @@
 -- What is listed and tested where one goes from a number that passes to the next one that does.
-use Rattle.std.proofs.Common.{◌≡◌, ℕ, zero, suc, ◌+◌, ◌<◌, ◌≤◌, Bool, true, false, ◌&&◌, ◌||◌, not, cond, List, [], ◌∷◌, ◌++◌, get_or, length, nat_eq, refl, ap, sym, ◌∙◌, subst, inl, inr, arith, add-one}
+use Rattle.std.proofs.Common.{◌≡◌, ℕ, ◌+◌, ◌<◌, ◌≤◌, Bool, true, false, ◌&&◌, ◌||◌, not, List, [], ◌∷◌, ◌++◌, get_or, length, nat_eq, refl, ap, sym, ◌∙◌, subst, arith}
 use Rattle.std.specs.Prelude.{Result, Ok, Err, IfOk}
 use Rattle.std.specs.List.{All}
-use Rattle.std.proofs.lemmas.Bool.{cases_lt}
-use Rattle.std.proofs.lemmas.List.{append-nil}
 use Rattle.mk_base.specs.declared.place.NodeId.{NodeId}
 use Rattle.numbered_nodes.specs.Bits.{has}
-use Rattle.numbered_nodes.proofs.Booleans.{not_true, is_same, from_test}
+use Rattle.numbered_nodes.proofs.Booleans.{is_same, from_test}
 use Rattle.numbered_nodes.specs.Order.{IsOrder}
 use Rattle.numbered_nodes.specs.Chains.{any_below, below}
 use Rattle.mod_graph.specs.Graph.{ids}

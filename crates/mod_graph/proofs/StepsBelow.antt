@@ -1,18 +1,18 @@
 -- The edges of nodes and of modules, and the steps of needs, lie between nodes of the tree.
-use Rattle.std.proofs.Common.{◌≡◌, ◌⊎◌, ℕ, zero, suc, ◌<◌, Bool, true, false, ◌&&◌, not, List, length, Some, None, nat_lt, refl, ap, sym, ◌∙◌, inl, inr, arith}
+use Rattle.std.proofs.Common.{◌≡◌, ◌⊎◌, ℕ, Bool, true, false, ◌&&◌, not, List, length, Some, None, nat_lt, refl, inl, inr}
 use Rattle.std.specs.declared.option.Option.{Option}
 use Rattle.std.specs.Option.{option_map_or}
 use Rattle.std.specs.List.{slice_get, list_any}
-use Rattle.std.proofs.lemmas.Bool.{cases_eq, ltb-true}
+use Rattle.std.proofs.lemmas.Bool.{ltb-true}
 use Rattle.std.proofs.lemmas.Option.{slice_get_within}
 use Rattle.hs_syntax.specs.declared.header.ImportItem.{ImportItem}
-use Rattle.numbered_nodes.proofs.Booleans.{split_or, or_right}
+use Rattle.numbered_nodes.proofs.Booleans.{split_or}
 use Rattle.mod_graph.specs.declared.entries.Entry.{Entry}
 use Rattle.mod_graph.specs.Names.{node_named}
 use Rattle.numbered_nodes.specs.Chains.{any_below, AreBelow}
 use Rattle.mod_graph.specs.Edges.{is_at, target, number_of, module_number, leads_from, leads, joins, in_loop, calls}
-use Rattle.numbered_nodes.proofs.Below.{any_below_with, any_below_from, is_at_is}
-use Rattle.numbered_nodes.proofs.Chains.{and_both, or_left}
+use Rattle.numbered_nodes.proofs.Below.{any_below_with, is_at_is}
+use Rattle.numbered_nodes.proofs.Chains.{and_both}
 use Rattle.mod_graph.proofs.Numbering.{any_with, number_below, module_below}
 
 -- the value of an option of which something is true

@@ -1,10 +1,10 @@
 -- What a graph keeps says what a node sees of a module, and which loop it is of.
-use Rattle.std.proofs.Common.{◌≡◌, ◌⊎◌, ℕ, zero, suc, ◌+◌, ◌<◌, Bool, true, false, ◌&&◌, ◌||◌, not, cond, List, [], get_or, length, nat_eq, Some, None, codes, refl, ap, sym, ◌∙◌, subst, inl, inr, arith}
+use Rattle.std.proofs.Common.{◌≡◌, ◌⊎◌, ℕ, zero, suc, ◌<◌, Bool, true, false, ◌&&◌, ◌||◌, not, cond, List, [], get_or, length, nat_eq, Some, None, codes, refl, ap, sym, ◌∙◌, subst, inl, inr, arith}
 use Rattle.std.specs.declared.option.Option.{Option}
 use Rattle.std.specs.List.{slice_get}
 use Rattle.std.specs.Option.{ForSome, IfSome, is_some, option_map, option_map_or, unwrap_or}
 use Rattle.std.proofs.lemmas.Bool.{cases_eq}
-use Rattle.std.proofs.lemmas.Option.{same_Some, get_or_from_slice_get}
+use Rattle.std.proofs.lemmas.Option.{same_Some}
 use Rattle.mk_base.specs.declared.name.Node.{Node}
 use Rattle.numbered_nodes.specs.Bits.{has}
 use Rattle.numbered_nodes.proofs.Booleans.{both_ways, is_same, from_test}
@@ -14,10 +14,10 @@ use Rattle.mod_graph.specs.declared.graph.Graph.{Graph}
 use Rattle.mod_graph.specs.declared.input.ViewOf.{ViewOf}
 use Rattle.mod_graph.specs.declared.input.ViewOf.TheVariants as view
 use Rattle.mod_graph.specs.Names.{same_text, node_named}
-use Rattle.mod_graph.specs.Edges.{number_of, module_of, in_loop, reaches}
-use Rattle.mod_graph.specs.Errors.{Found, InTree, InPackage, InPrim, Nowhere, outside_tree, look_up}
+use Rattle.mod_graph.specs.Edges.{number_of, in_loop, reaches}
+use Rattle.mod_graph.specs.Errors.{InTree, InPrim, Nowhere, outside_tree, look_up}
 use Rattle.package_graph.specs.Packages.{first_package}
-use Rattle.mod_graph.specs.Graph.{Input, View, Tree, IsView, entries, first_below, loop_number, nodes_at, tree_view, view_by, view_of}
+use Rattle.mod_graph.specs.Graph.{Input, View, Tree, IsView, entries, first_below, loop_number, view_by, view_of}
 use Rattle.mod_graph.specs.Places.{number_in, module_in}
 use Rattle.mod_graph.specs.Seen.{is_seen, number_seen, outside_seen}
 use Rattle.package_graph.specs.Tables.{first_in}

@@ -1,6 +1,6 @@
 -- The edges of nodes and of modules, what is reached over them, loops, and needs. All are over the entries of a tree.
 -- Boot files, and what an import with SOURCE asks for: GHC User's Guide, "Mutually recursive modules and hs-boot files"; imports: Haskell 2010 Report, section 5.3.
-use Rattle.std.specs.Prelude.{◌≡◌, ◌↔◌, ◌<◌, ℕ, Bool, true, false, ◌&&◌, ◌||◌, not, nat_eq, nat_lt, List, length, slice_get, Some, None, Option, unwrap_or, position}
+use Rattle.std.specs.Prelude.{◌≡◌, ◌↔◌, ◌<◌, ℕ, Bool, true, false, ◌&&◌, ◌||◌, not, nat_eq, nat_lt, List, length, slice_get, Option, unwrap_or, position}
 use Rattle.std.specs.List.{list_any}
 use Rattle.std.specs.Option.{option_map_or}
 use Rattle.mk_base.specs.declared.name.Node.{Node}

@@ -1,6 +1,5 @@
 -- The nodes of a tree by their names, each with what it imports and with what is wrong with its own file.
 use Rattle.std.specs.Prelude.{ℕ, suc, ◌+◌, min, nat_lt, Bool, ◌||◌, List, [], ◌∷◌, ◌++◌, Some, None, Option, Result, Ok, Err, codes, if◌then◌else◌}
-use Rattle.mk_base.specs.declared.name.Node.{Node}
 use Rattle.mk_base.specs.declared.place.Pos.{Pos}
 use Rattle.mk_base.specs.declared.diag.Diag.{Diag}
 use Rattle.hs_syntax.specs.declared.header.Header.{Header}

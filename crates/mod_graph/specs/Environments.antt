@@ -1,5 +1,5 @@
 -- The modules of packages in the environments of nodes, by the tables.
-use Rattle.std.specs.Prelude.{ℕ, Bool, false, ◌&&◌, ◌||◌, List, [], get_or, length, slice_get}
+use Rattle.std.specs.Prelude.{ℕ, Bool, false, List, [], get_or, slice_get}
 use Rattle.std.specs.List.{list_any}
 use Rattle.std.specs.Option.{option_map_or}
 use Rattle.numbered_nodes.specs.Bits.{has}
@@ -7,7 +7,6 @@ use Rattle.hs_syntax.specs.declared.header.ImportItem.{ImportItem}
 use Rattle.mod_graph.specs.declared.entries.Entry.{Entry}
 use Rattle.package_graph.specs.declared.packages.Packages.{Packages}
 use Rattle.mod_graph.specs.declared.places.Numbers.{Numbers}
-use Rattle.numbered_nodes.specs.Chains.{any_below}
 use Rattle.mod_graph.specs.Errors.{Found, InPackage}
 use Rattle.mod_graph.specs.Found.{found_in}
 

@@ -1,6 +1,6 @@
 -- The diagnostics of the graph stage. The codes and texts are this project's own; import cycles and missing boot files are refused as GHC User's Guide has it, "Mutually recursive modules and hs-boot files".
-use Rattle.std.specs.Prelude.{ℕ, Bool, true, false, ◌&&◌, ◌||◌, not, is_some, List, [], ◌∷◌, ◌++◌, slice_get, Some, None, Option, codes, if◌then◌else◌}
-use Rattle.std.specs.List.{list_any, flat_map, find}
+use Rattle.std.specs.Prelude.{ℕ, Bool, true, false, ◌&&◌, not, is_some, List, [], ◌∷◌, ◌++◌, slice_get, Some, None, Option, codes, if◌then◌else◌}
+use Rattle.std.specs.List.{flat_map, find}
 use Rattle.std.specs.Option.{option_map_or}
 use Rattle.std.specs.declared.cmp.Ordering.{Ordering}
 use Rattle.std.specs.declared.cmp.Ordering.TheVariants.{Less, Equal, Greater}

@@ -1,6 +1,6 @@
 -- The graph of modules: its order, its loops, what each node needs and what is wrong with it, and what it sees of modules.
 -- That modules are compiled behind those that they import, and that a loop is broken by a boot file: GHC User's Guide, "Using ghc --make" and "Mutually recursive modules and hs-boot files". Which of a looped module's two nodes is seen is this project's own rule.
-use Rattle.std.specs.Prelude.{◌≡◌, ◌<◌, ℕ, Bool, true, false, ◌&&◌, ◌||◌, not, nat_eq, List, [], ◌∷◌, length, map, slice_get, Some, None, Option, unwrap_or, if◌then◌else◌}
+use Rattle.std.specs.Prelude.{◌≡◌, ℕ, Bool, true, false, ◌&&◌, ◌||◌, not, nat_eq, List, [], ◌∷◌, length, map, slice_get, Some, None, Option, unwrap_or, if◌then◌else◌}
 use Rattle.std.specs.List.{list_any, flat_map, AllByRecursion}
 use Rattle.std.specs.Option.{option_map_or}
 use Rattle.mk_base.specs.declared.name.Node.{Node}
@@ -16,7 +16,7 @@ use Rattle.mod_graph.specs.declared.entries.Entry.{Entry}
 use Rattle.mod_graph.specs.Names.{node_named}
 use Rattle.mod_graph.specs.Entries.{entries_of}
 use Rattle.numbered_nodes.specs.Chains.{any_below, below}
-use Rattle.mod_graph.specs.Edges.{number_of, module_of, reaches, in_loop, needs, needs_node}
+use Rattle.mod_graph.specs.Edges.{number_of, reaches, in_loop, needs, needs_node}
 use Rattle.package_graph.specs.Packages.{has_package}
 use Rattle.mod_graph.specs.Errors.{Found, InTree, InPackage, InPrim, Nowhere, look_up, node_errors}
 

@@ -1,5 +1,5 @@
 -- What a graph keeps.
-use Rattle.std.specs.Prelude.{◌≡◌, ◌<◌, ℕ, List, length, get_or, slice_get, Some, map, Option}
+use Rattle.std.specs.Prelude.{◌≡◌, ◌<◌, ℕ, length, get_or, slice_get, Some}
 use Rattle.std.specs.Option.{option_map}
 use Rattle.mk_base.specs.declared.name.Node.{Node}
 use Rattle.mod_graph.specs.declared.graph.Graph.{Graph}

@@ -1,5 +1,5 @@
 -- Nodes by their names: the node of a module, the test whether two are the same, and their order.
-use Rattle.std.specs.Prelude.{ℕ, Bool, ◌&&◌, cond, not, nat_eq, List}
+use Rattle.std.specs.Prelude.{ℕ, Bool, ◌&&◌, cond, not, List}
 use Rattle.std.specs.Ordering.{is_lt}
 use Rattle.mk_base.specs.Order.{node_cmp}
 use Rattle.mk_base.specs.declared.name.Node.{Node}

@@ -1,10 +1,9 @@
 -- What a sound module offers fits its spelling.
-use Rattle.std.proofs.Common.{◌≡◌, ℕ, ◌<◌, ◌≤◌, ◌^◌, List, length, refl, sym, subst, Result, Ok, Err, arith}
+use Rattle.std.proofs.Common.{◌≡◌, ℕ, ◌<◌, ◌≤◌, ◌^◌, List, length, Result, Ok, Err, arith}
 use Rattle.std.specs.List.{AllByRecursion}
 use Rattle.build_theory.proofs.Lists.{all_map}
 use Rattle.mk_base.specs.declared.name.Node.{Node}
 use Rattle.mk_base.specs.declared.diag.Diag.{Diag}
-use Rattle.plain_form.specs.declared.form.Word.{Word}
 use Rattle.plain_form.specs.declared.form.DataItem.{DataItem}
 use Rattle.plain_form.specs.declared.form.Written.{Written}
 use Rattle.plain_scope.specs.declared.scope.Content.{Content}

@@ -1,4 +1,4 @@
-use Rattle.std.proofs.Common.{◌≡◌, ◌∙◌, ◌<◌, ℕ, List, [], get_or, length, ap, arith, rules}
+use Rattle.std.proofs.Common.{◌≡◌, ◌∙◌, ℕ, List, [], get_or, length, ap, arith, rules}
 use Rattle.numbered_nodes.specs.Chains.{below}
 use Rattle.package_graph.specs.Environments.{among}
 use Rattle.mod_graph.proofs.EnvironmentRows.{environments_are}

@@ -1,4 +1,4 @@
-use Rattle.std.proofs.Common.{◌≡◌, ◌<◌, length, ap, ◌∙◌, subst, arith}
+use Rattle.std.proofs.Common.{◌≡◌, length, ap, ◌∙◌, subst, arith}
 use Rattle.mod_graph.specs.Entries.{entries_of}
 use Rattle.mod_graph.specs.Graph.{Input, entries}
 use Rattle.package_graph.specs.Tables.{AreTables}

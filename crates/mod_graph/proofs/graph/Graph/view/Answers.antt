@@ -1,4 +1,4 @@
-use Rattle.std.proofs.Common.{◌≡◌, get_or, length, ◌<◌, Some, None, ap, sym, ◌∙◌, subst, arith}
+use Rattle.std.proofs.Common.{length, ◌<◌, Some, None, ap, sym, ◌∙◌, subst, arith}
 use Rattle.std.specs.Option.{is_some}
 use Rattle.std.proofs.lemmas.List.{get_or_read}
 use Rattle.mod_graph.specs.Graph.{IsView, view_of}
