@@ -5,7 +5,6 @@ ghost use Rattle.mk_base.specs.declared.name.Space.TheVariants.{Ty as OfType};
 ghost use Rattle.plain_scope.specs.Scope.{entity};
 ghost use Rattle.plain_face.specs.Sizes.{NameFits};
 
-use crate::table::full_name;
 use mk_base::list::List;
 use mk_base::memory::NoMemory;
 use mk_base::name::{ModName, Name, Occ, Space, Unit};
