@@ -1,7 +1,7 @@
 -- Needs that are the same below a bound have the same orders.
 use Rattle.std.proofs.Common.{◌↔◌, ℕ, ◌<◌, List, get_or, take, inl, inr, arith}
 use Rattle.std.specs.List.{Contains}
-use Rattle.node_order.specs.Order.{IsReady, IsIdle, IsNext, IsOrder}
+use Rattle.numbered_nodes.specs.Order.{IsReady, IsIdle, IsNext, IsOrder}
 
 module _ (P Q : ℕ → ℕ → Type 0) (n : ℕ) (same : (a b : ℕ) → a < n → b < n → P a b ↔ Q a b) where
   ready_forth : (L : ℕ → Type 0) (x : ℕ) → x < n → IsReady P n L x → IsReady Q n L x

@@ -6,7 +6,7 @@ use Rattle.mk_base.specs.declared.name.Node.{Node}
 use Rattle.build_theory.proofs.Lists.{differ}
 use Rattle.mod_graph.specs.declared.entries.Entry.{Entry}
 use Rattle.mod_graph.specs.Edges.{calls, needs, needs_node, number_of}
-use Rattle.mod_graph.proofs.Chains.{over_chain}
+use Rattle.numbered_nodes.proofs.Chains.{over_chain}
 use Rattle.mod_graph.proofs.NodeOrders.{needs_numbered}
 use Rattle.mod_graph.proofs.StepsBelow.{calls_below}
 

@@ -7,7 +7,7 @@ use Rattle.std.specs.List.{flat_map}
 use Rattle.std.proofs.lemmas.List.{map-append}
 use Rattle.std.proofs.lemmas.Option.{slice_get-map}
 use Rattle.mk_base.specs.declared.name.Node.{Node}
-use Rattle.node_order.specs.Order.{IsOrder}
+use Rattle.numbered_nodes.specs.Order.{IsOrder}
 use Rattle.mod_graph.specs.declared.entries.Entry.{Entry}
 use Rattle.mod_graph.specs.Edges.{needs, needs_node}
 use Rattle.mod_graph.specs.Graph.{entries, nodes_at, one_node, IsNodeOrder}

@@ -25,6 +25,9 @@ place_there : (qs : List (Node × List ℕ)) (n : Node) (o : Option ℕ) → IsP
 place_there qs n None p e f = clash (list_any (λ (q : Node × List ℕ). same_node n q.0) qs) e p
 place_there qs n (Some i) p e f = let h : ⊥ = cc in h
 
+abbrev pub paired : List ℕ → Node → Node × List ℕ
+paired s n = (n, s)
+
 module _ (t : SourceTree) (g : Graph) (plan : IsPlanned t g) (places : Places) (sources : List Source) (right : ArePlaces places (pairs sources)) (are : pairs sources ≡ t.sources)
     (n : ℕ) (node : Node) (here : slice_get g.order n ≡ Some node) where
   abbrev place : Option ℕ
@@ -55,7 +58,7 @@ module _ (t : SourceTree) (g : Graph) (plan : IsPlanned t g) (places : Places) (
       there : slice_get t.sources at ≡ Some (s.node, s.bytes.now)
       there = ap (λ (qs : List (Node × List ℕ)). slice_get qs at) (sym are) ∙ pairs_at sources at s e
 
-      alike : (node, stands.0) ≡ (s.node, s.bytes.now)
+      alike : paired stands.0 node ≡ paired s.bytes.now s.node
       alike = same_Some (node, stands.0) (s.node, s.bytes.now) (sym stands.1 ∙ there)
 
       -- which has the source of the order
@@ -64,7 +67,7 @@ module _ (t : SourceTree) (g : Graph) (plan : IsPlanned t g) (places : Places) (
           let q : Node × List ℕ = (s.node, s.bytes.now) in
           let same : own.0 ≡ q =
           one_source t.sources (rising_apart t.sources plan.standing.rising) own.0 q (in_sources t own.0 (in_at (ordered t) n own.0 own.1)) (in_at t.sources at q there) (own.2 ∙ ap (λ (z : Node × List ℕ). z.0) alike) in
-          own.1 ∙ ap (λ (z : Node × List ℕ). Some z) (same ∙ ap (λ (m : Node). (m, s.bytes.now)) (sym (ap (λ (z : Node × List ℕ). z.0) alike)))
+          own.1 ∙ ap (λ (z : Node × List ℕ). Some z) (same ∙ ap (paired s.bytes.now) (sym (ap (λ (z : Node × List ℕ). z.0) alike)))
 
       -- and its header
       pub header_here : (hs : List HeaderOf) → hs ≡ map header_for t.sources → option_map (λ (h : HeaderOf). h.header) (slice_get hs at) ≡ Some (header_at node s.bytes.now)

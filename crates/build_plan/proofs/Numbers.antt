@@ -8,9 +8,9 @@ use Rattle.std.proofs.lemmas.List.{append-nil}
 use Rattle.std.proofs.lemmas.List.Folds.{list_any-append}
 use Rattle.std.proofs.lemmas.List.Elements.{Contains-append_left, Contains-append_cases}
 use Rattle.std.proofs.lemmas.Option.{same_Some, slice_get_within}
-use Rattle.number_set.proofs.Booleans.{split_or, or_right, not_true, is_same, is_other, from_test}
-use Rattle.node_reach.proofs.Searches.{contains_last, Contains-one}
-use Rattle.node_order.specs.Order.{IsNext, IsReady, IsOrder}
+use Rattle.numbered_nodes.proofs.Booleans.{split_or, or_right, not_true, is_same, is_other, from_test}
+use Rattle.numbered_nodes.proofs.Searches.{contains_last, Contains-one}
+use Rattle.numbered_nodes.specs.Order.{IsNext, IsReady, IsOrder}
 use Rattle.build_theory.specs.Build.{Tree, Language, is_node, is_need, has, is_ready, first_at, next_at, order_from, order}
 use Rattle.build_theory.specs.Laws.{IsIn, IsOrdered, IsExact}
 use Rattle.build_theory.proofs.Lists.{both_ways, clash, and_both, or_left, then_holds, any_of, all_of, all_holds, all_at}

@@ -15,7 +15,7 @@ use Rattle.mod_graph.specs.declared.graph.Graph.{Graph}
 use Rattle.mod_graph.specs.Kept.{IsGraph}
 use Rattle.mod_graph.specs.Graph.{Input, IsNodeOrder, entries}
 use Rattle.mod_graph.specs.declared.input.HeaderOf.{HeaderOf}
-use Rattle.mod_graph.specs.declared.input.PackageModule.{PackageModule}
+use Rattle.package_graph.specs.declared.modules.PackageModule.{PackageModule}
 use Rattle.build_plan.specs.declared.sources.Source.{Source}
 use Rattle.build_plan.specs.Files.{AreDistinct, AreShort}
 use Rattle.build_plan.specs.Plan.{IsStanding, IsShortNode, IsPlanned}

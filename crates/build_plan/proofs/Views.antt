@@ -8,18 +8,19 @@ use Rattle.std.proofs.lemmas.Bool.{lt-ltb}
 use Rattle.mk_base.specs.declared.name.Node.{Node}
 use Rattle.mk_base.specs.declared.diag.Diag.{Diag}
 use Rattle.hs_syntax.specs.declared.header.ImportItem.{ImportItem}
-use Rattle.number_set.proofs.Booleans.{both_ways, split_or, or_right, is_same}
+use Rattle.numbered_nodes.proofs.Booleans.{both_ways, split_or, or_right, is_same}
 use Rattle.mod_graph.specs.declared.entries.Entry.{Entry}
 use Rattle.mod_graph.specs.Names.{node_named}
-use Rattle.mod_graph.specs.Chains.{over, any_below}
+use Rattle.numbered_nodes.specs.Chains.{over, any_below}
 use Rattle.mod_graph.specs.Edges.{is_at, target, number_of, module_number, module_of, leads_from, leads, joins, reaches, in_loop, calls, needs, needs_node}
 use Rattle.mod_graph.specs.Errors.{Found, InTree, InPackage, InPrim, Nowhere, look_up, has_node, errors_at, import_errors}
 use Rattle.mod_graph.specs.Graph.{Input, View, Tree, Package, Prim, entries, has, reaches_node, loops_with, boot_view, tree_view, view_by, view_of}
-use Rattle.mod_graph.proofs.Chains.{and_both, both_and, or_left, over_step}
+use Rattle.numbered_nodes.proofs.Chains.{and_both, both_and, or_left, over_step}
 use Rattle.mod_graph.proofs.NodeTests.{differ, same_modules}
 use Rattle.mod_graph.proofs.NodeOrders.{needs_numbered}
-use Rattle.mod_graph.proofs.Numbering.{is_at_own, any_from, number_found, number_below, module_numbered}
-use Rattle.mod_graph.proofs.StepsBelow.{any_below_from}
+use Rattle.numbered_nodes.proofs.Below.{is_at_own}
+use Rattle.mod_graph.proofs.Numbering.{any_from, number_found, number_below, module_numbered}
+use Rattle.numbered_nodes.proofs.Below.{any_below_from}
 
 -- more steps, more chains
 over_more : (e f : ℕ → ℕ → Bool) → ((a b : ℕ) → e a b ≡ true → f a b ≡ true) → (n a b : ℕ) → over e n a b ≡ true → over f n a b ≡ true

@@ -2,7 +2,7 @@
 #![tactic(auto)]
 
 mod headers;
+mod imports;
 mod places;
 pub mod plan;
-mod seen;
 mod sources;

@@ -7,8 +7,8 @@ ghost use Rattle.build_plan.specs.Steps.{import_places, pairs};
 ghost use Rattle.build_plan.specs.Tree.{Settings, SourceTree, header_for, imports_of, input_of, nodes_of, ordered, sorted_tree};
 
 use crate::headers::{headers_of, imports_in};
+use crate::imports::seen_places;
 use crate::places::{place_of, places_of};
-use crate::seen::seen_places;
 use crate::sources::{Source, list_sources, sort_sources};
 use mk_base::list::List;
 use mk_base::memory::NoMemory;
@@ -63,11 +63,7 @@ fn nodes_in_order<'a>(
 }
 
 /// The plan of the tree of these files; `prelude` says whether Prelude is imported where a module's pragmas say nothing.
-pub fn plan_of<'a>(
-    alloc: Global,
-    files: &'a [File],
-    prelude: bool,
-) -> Result<Plan<'a>, NoMemory>
+pub fn plan_of<'a>(alloc: Global, files: &'a [File], prelude: bool) -> Result<Plan<'a>, NoMemory>
     requires files { AreDistinct files.now }
     requires few { length files.now < 2 ^ 32 }
     requires names { AreShort files.now }

@@ -4,9 +4,9 @@ use Rattle.std.proofs.lemmas.List.{length-map}
 use Rattle.std.proofs.lemmas.Option.{slice_get_read}
 use Rattle.mk_base.specs.declared.name.Node.{Node}
 use Rattle.build_plan.specs.declared.plan.PlannedNode.{PlannedNode}
-use Rattle.build_plan.specs.Tree.{SourceTree, ordered}
-use Rattle.build_plan.proofs.Nodes.{never_lost, source_below, source_here, header_here}
-use Rattle.build_plan.proofs.Planning.{none_first, next_first, all_first}
+use Rattle.build_plan.specs.Tree.{SourceTree, header_at, ordered}
+use Rattle.build_plan.proofs.Nodes.{paired, never_lost, source_below, source_here, header_here}
+use Rattle.build_plan.proofs.Planning.{AreFirst, none_first, next_first, all_first}
 use Rattle.build_plan.proofs.plan.nodes_in_order.Goals as goal
 
 pub loop-node-init : goal.loop-node-init
@@ -35,7 +35,11 @@ loop-node-preserved c = λ t plan e h.
     let read = slice_get_read c.args.sources.now (length c.args.sources.now) c.in-Some.at s refl lt c.index-sources-at.is in
     let source = source_here t g plan c.in_ok-places.places c.args.sources.now c.in_ok-places.ensures e n c.node-item.result here c.in-Some.at found s read in
     let header = header_here t g plan c.in_ok-places.places c.args.sources.now c.in_ok-places.ensures e n c.node-item.result here c.in-Some.at found s read c.args.headers.now h in
-    _
+    let made : PlannedNode = record { node = c.in_ok-copy.field-0; bytes = s.bytes; header = c.in-Some.at } in
+    subst (λ (ns : List PlannedNode). AreFirst t c.args.headers.now ns (n + 1)) (sym c.in_ok-push.ensures.items)
+    (next_first t c.args.headers.now c.loop-node.nodes.items n made (c.loop-node.invariant t plan e h)
+    (source ∙ ap (λ (m : Node). Some (paired s.bytes.now m)) (sym c.in_ok-copy.ensures))
+    (header ∙ ap (λ (m : Node). Some (header_at m s.bytes.now)) (sym c.in_ok-copy.ensures)))
 
 pub returns : goal.returns
 returns c = λ t plan e h.

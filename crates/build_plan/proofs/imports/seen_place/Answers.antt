@@ -3,7 +3,7 @@ use Rattle.mk_base.specs.declared.name.Node.{Node}
 use Rattle.build_plan.specs.Steps as steps_spec
 use Rattle.build_plan.specs.Tree.{input_of}
 use Rattle.build_plan.proofs.Seen.{tree_place, no_place, package_place, prim_place}
-use Rattle.build_plan.proofs.seen.seen_place.Goals as goal
+use Rattle.build_plan.proofs.imports.seen_place.Goals as goal
 
 pub returns-in-Some-Tree : goal.returns-in-Some-Tree
 returns-in-Some-Tree c = λ t plan.

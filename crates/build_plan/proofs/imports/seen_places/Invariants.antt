@@ -2,7 +2,7 @@ use Rattle.std.proofs.Common.{◌≡◌, ◌++◌, drop}
 use Rattle.build_plan.specs.Plan.{IsPlanned}
 use Rattle.build_plan.specs.Steps.{import_places}
 use Rattle.build_plan.specs.Tree.{SourceTree, input_of, nodes_of, ordered}
-use Rattle.build_plan.proofs.seen.seen_places.Given as goal
+use Rattle.build_plan.proofs.imports.seen_places.Given as goal
 
 abbrev pub invariant-loop-import : goal.invariant-loop-import
 invariant-loop-import l = (t : SourceTree) → IsPlanned t l.graph
