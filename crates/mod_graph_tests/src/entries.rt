@@ -2,12 +2,8 @@
 ghost use Rattle.std.specs.Prelude.{◌≡◌, ◌<◌, ◌^◌, IfOk, length};
 ghost use Rattle.mod_graph.specs.Graph.{AreDistinct};
 ghost use Rattle.mod_graph.specs.Names.{node_named};
+ghost use Rattle.mod_graph.specs.Places.{AreNumbers};
 
-use mod_graph::edges::{module_edges, modules_of, node_edges};
-use mod_graph::entries::{Entry, entries_of};
-use mod_graph::input::HeaderOf;
-use mod_graph::places::numbers_of;
-use mod_graph::prelude::with_prelude;
 use hs_syntax::header::{Header, ImportItem};
 use hs_syntax::name_ref::NameRef;
 use mk_base::list::List;
@@ -16,6 +12,11 @@ use mk_base::name::{ModName, Node};
 use mk_base::place::Pos;
 use mk_base::plain::Plain;
 use mk_base::text::Text;
+use mod_graph::edges::{module_edges, modules_of, node_edges};
+use mod_graph::entries::{Entry, entries_of};
+use mod_graph::input::HeaderOf;
+use mod_graph::places::{Numbers, numbers_of};
+use mod_graph::prelude::with_prelude;
 use std::alloc::Global;
 use std::test::Fail;
 
@@ -161,18 +162,55 @@ fn push_rows(out: &mut List<u8>, rows: &[Vec<usize>]) -> Result<(), NoMemory> {
     Ok(())
 }
 
+/// Puts the edges of the nodes at the end.
+fn push_node_edges(
+    out: &mut List<u8>,
+    alloc: Global,
+    entries: &[Entry],
+    numbers: &Numbers,
+) -> Result<(), NoMemory>
+    requires { AreNumbers numbers.now entries.now }
+{
+    let edges = node_edges(alloc, entries, numbers)?;
+    push_rows(out, &edges)
+}
+
+/// Puts the edges of the modules at the end.
+fn push_module_edges(
+    out: &mut List<u8>,
+    alloc: Global,
+    entries: &[Entry],
+    numbers: &Numbers,
+) -> Result<(), NoMemory>
+    requires { AreNumbers numbers.now entries.now }
+{
+    let edges = module_edges(alloc, entries, numbers)?;
+    push_rows(out, &edges)
+}
+
+/// Puts the module of each node at the end.
+fn push_modules(
+    out: &mut List<u8>,
+    alloc: Global,
+    entries: &[Entry],
+    numbers: &Numbers,
+) -> Result<(), NoMemory>
+    requires { AreNumbers numbers.now entries.now }
+{
+    let mut modules = Vec::new(alloc);
+    modules.push(modules_of(alloc, entries, numbers)?)?;
+    push_rows(out, &modules)
+}
+
 /// The edges of the nodes, those of the modules, and the module of each node, a line each.
 fn shown_edges(alloc: Global, entries: &[Entry]) -> Result<List<u8>, NoMemory> {
     let numbers = numbers_of(alloc, entries)?;
     let mut out = List::new(alloc);
-    push_rows(&mut out, &node_edges(alloc, entries, &numbers)?)?;
+    push_node_edges(&mut out, alloc, entries, &numbers)?;
     out.push(b'\n')?;
-    push_rows(&mut out, &module_edges(alloc, entries, &numbers)?)?;
+    push_module_edges(&mut out, alloc, entries, &numbers)?;
     out.push(b'\n')?;
-    for module in modules_of(alloc, entries, &numbers)?.as_slice() {
-        out.push_number(*module as u64)?;
-        out.push(b' ')?;
-    }
+    push_modules(&mut out, alloc, entries, &numbers)?;
     Ok(out)
 }
 
@@ -188,7 +226,7 @@ fn entries_stand_by_node_and_have_their_edges(rt: HostRuntime) -> Result<(), Fai
     let shown = shown_edges(alloc, &entries)?;
     assert_eq!(rt;
         shown.as_slice(),
-        b";0 2 ;1 2 ;\n2 ;;0 2 ;\n0 0 2 ".as_slice()
+        b";0 2 ;1 2 ;\n2 ;;0 2 ;\n0 0 2 ;".as_slice()
     );
     Ok(())
 }

@@ -11,6 +11,7 @@ use mk_base::text::Text;
 use mod_graph::graph::Graph;
 use mod_graph::input::HeaderOf;
 use std::alloc::Global;
+use std::process::Abort;
 use std::test::Fail;
 
 /// A header of this module, of this size, that imports nothing.
@@ -53,22 +54,30 @@ fn told(graph: &Graph) -> (u32, u8)
     (some, last)
 }
 
+/// Checks a tree of so many modules of this size: how many nodes have a diagnostic, and the number of the last one's.
+fn check_limit(
+    rt: &impl Abort,
+    alloc: Global,
+    count: u64,
+    size: u64,
+    expected: (u32, u8),
+) -> Result<(), NoMemory>
+    requires { count ≤ 5000 }
+{
+    let none = List::new(alloc);
+    let graph = graph_of(rt, alloc, &many(alloc, count, size)?, &none, false)?;
+    assert!(rt; graph.order().len() as u64 == count);
+    assert!(rt; told(&graph) == expected);
+    Ok(())
+}
+
 #[test]
 fn sources_and_modules_are_limited(rt: HostRuntime) -> Result<(), Fail> {
     let alloc = rt.alloc();
-    let none = List::new(alloc);
-    let rows: [(u64, u64, u32, u8); 5] = [
-        (1, 1_048_576, 0, 0),
-        (1, 1_048_577, 1, 6),
-        (256, 1_048_576, 0, 0),
-        (257, 1_048_576, 1, 6),
-        (4097, 1, 1, 7),
-    ];
-    for (count, size, some, last) in rows {
-        assert!(rt; count <= 5000);
-        let graph = graph_of(&rt, alloc, &many(alloc, count, size)?, &none, false)?;
-        assert!(rt; graph.order().len() as u64 == count);
-        assert!(rt; told(&graph) == (some, last));
-    }
+    check_limit(&rt, alloc, 1, 1_048_576, (0, 0))?;
+    check_limit(&rt, alloc, 1, 1_048_577, (1, 6))?;
+    check_limit(&rt, alloc, 256, 1_048_576, (0, 0))?;
+    check_limit(&rt, alloc, 257, 1_048_576, (1, 6))?;
+    check_limit(&rt, alloc, 4097, 1, (1, 7))?;
     Ok(())
 }
