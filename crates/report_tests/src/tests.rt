@@ -3,7 +3,6 @@ ghost use Rattle.std.specs.Prelude.{List as Entries, ◌≡◌, IfOk};
 ghost use Rattle.face_model.specs.declared.result.NodeResult.{NodeResult as Entry};
 ghost use Rattle.report.specs.Report.{AreNamed, IsNamed};
 
-use report::report::report_text;
 use bytes::Bytes;
 use face_model::result::{BuildResult, How, NodeResult, Reason};
 use mk_base::diag::Diag;
@@ -13,6 +12,7 @@ use mk_base::memory::NoMemory;
 use mk_base::name::{ModName, Node};
 use mk_base::place::{NodeId, Pos};
 use mk_base::text::Text;
+use report::report::report_text;
 use std::alloc::Global;
 use std::test::Fail;
 

@@ -1,9 +1,9 @@
 //! The spellings of numbers and texts against worked ones.
 
-use wire::put::{put_num, put_text};
 use mk_base::list::List;
 use mk_base::memory::NoMemory;
 use std::alloc::Global;
+use wire::put::{put_num, put_text};
 
 fn writes_number(alloc: Global, number: u32, bytes: &[u8]) -> Result<bool, NoMemory> {
     let mut out = List::new(alloc);
