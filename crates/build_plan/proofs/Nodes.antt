@@ -11,13 +11,11 @@ use Rattle.mod_graph.specs.declared.graph.Graph.{Graph}
 use Rattle.mod_graph.specs.declared.input.HeaderOf.{HeaderOf}
 use Rattle.mod_graph.specs.Names.{same_node}
 use Rattle.build_plan.specs.declared.places.Places.{Places}
-use Rattle.build_plan.specs.declared.plan.PlannedNode.{PlannedNode}
 use Rattle.build_plan.specs.declared.sources.Source.{Source}
-use Rattle.build_plan.specs.Plan.{IsPlanned, HasHeader, planned}
+use Rattle.build_plan.specs.Plan.{IsPlanned}
 use Rattle.build_plan.specs.Steps.{ArePlaces, IsPlace, pairs, place_in}
 use Rattle.build_plan.specs.Tree.{SourceTree, header_at, header_for, ordered}
 use Rattle.build_plan.proofs.Ordering.{source_from, in_sources, is_source}
-use Rattle.build_plan.proofs.Placing.{front_next}
 use Rattle.build_plan.proofs.Spots.{in_at, one_source, rising_apart}
 use Rattle.build_plan.proofs.Standing.{pairs_at, pairs_length}
 

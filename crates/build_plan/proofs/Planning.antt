@@ -1,5 +1,5 @@
 -- The nodes of a plan.
-use Rattle.std.proofs.Common.{◌≡◌, ℕ, zero, suc, ◌+◌, ◌<◌, ◌≤◌, List, [], ◌∷◌, ◌++◌, length, map, take, refl, ap, sym, ◌∙◌, subst, Some, None, Bool, arith, add-one}
+use Rattle.std.proofs.Common.{◌≡◌, ℕ, zero, suc, ◌+◌, ◌<◌, ◌≤◌, List, [], ◌∷◌, ◌++◌, length, take, refl, ap, sym, ◌∙◌, subst, Some, None, Bool, add-one}
 use Rattle.std.specs.Prelude.{slice_get}
 use Rattle.std.specs.declared.option.Option.{Option}
 use Rattle.std.specs.Option.{option_map}
@@ -12,14 +12,12 @@ use Rattle.hs_syntax.specs.declared.header.Header.{Header}
 use Rattle.hs_syntax.specs.declared.header.ImportItem.{ImportItem}
 use Rattle.std.specs.Prelude.{Result}
 use Rattle.build_theory.proofs.Lists.{all_at}
-use Rattle.mod_graph.specs.declared.graph.Graph.{Graph}
 use Rattle.mod_graph.specs.declared.input.HeaderOf.{HeaderOf}
 use Rattle.mod_graph.specs.Entries.{imports_in}
 use Rattle.build_plan.specs.declared.plan.Plan.{Plan}
 use Rattle.build_plan.specs.declared.plan.PlannedNode.{PlannedNode}
-use Rattle.build_plan.specs.Plan.{AreNodes, HasHeader, IsPlan, IsPlanned, planned}
-use Rattle.build_plan.specs.Steps.{import_places}
-use Rattle.build_plan.specs.Tree.{SourceTree, header_at, imports_of, input_of, nodes_of, ordered}
+use Rattle.build_plan.specs.Plan.{AreNodes, HasHeader, IsPlan, planned}
+use Rattle.build_plan.specs.Tree.{SourceTree, header_at, imports_of, ordered}
 use Rattle.build_plan.proofs.Alls.{all_last}
 use Rattle.build_plan.proofs.Spots.{in_at}
 

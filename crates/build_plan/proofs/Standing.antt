@@ -101,3 +101,9 @@ made_of hs ps p = record { headers = hs; packages = ps; prelude = p }
 pub graph_of : (t : SourceTree) (g : Graph) (hs : List HeaderOf) (ps : List PackageModule) (p : Bool) → hs ≡ map header_for t.sources → ps ≡ [] → t.settings.prelude ≡ p → IsGraph (record { headers = hs; packages = ps; prelude = p }) g → IsGraph (input_of t) g
 graph_of t g hs ps p e f h is =
     subst (λ (i : Input). IsGraph i g) (ap (λ (x : List HeaderOf). made_of x ps p) e ∙ ap (λ (x : List PackageModule). made_of (map header_for t.sources) x p) f ∙ ap (made_of (map header_for t.sources) []) (sym h)) is
+
+-- the graph of the headers of sorted files
+pub graph_planned : (g : Settings) (files : List File) (graph : Graph) (hs : List HeaderOf) (ps : List PackageModule) (p : Bool) → IsStanding (sorted_tree g files) → hs ≡ map header_for (sorted_tree g files).sources → ps ≡ [] → g.prelude ≡ p
+    → IsGraph (record { headers = hs; packages = ps; prelude = p }) graph → IsPlanned (sorted_tree g files) graph
+graph_planned g files graph hs ps p fine e f h is =
+    planned_tree (sorted_tree g files) graph graph.order fine (graph_of (sorted_tree g files) graph hs ps p e f (tree_prelude g files ∙ h) is) refl (λ i j. (graph.rows.order.items, j.rows.order, j.nodes))

@@ -1,11 +1,5 @@
-use Rattle.std.proofs.Common.{◌≡◌, ℕ, ◌<◌, List, length, refl, sym, ap, ◌∙◌, subst, Some, arith}
-use Rattle.std.specs.Prelude.{slice_get}
-use Rattle.std.proofs.lemmas.Option.{slice_get_read}
-use Rattle.mk_base.specs.declared.name.Node.{Node}
-use Rattle.hs_syntax.specs.declared.header.ImportItem.{ImportItem}
-use Rattle.build_plan.specs.Steps.{import_places}
-use Rattle.build_plan.specs.Tree.{SourceTree, imports_of, input_of, nodes_of, ordered}
-use Rattle.build_plan.proofs.Planning.{plan_count, header_within, imports_are}
+use Rattle.std.proofs.Common.{arith}
+use Rattle.build_plan.proofs.Planning.{plan_count}
 use Rattle.build_plan.proofs.Seen.{planned_few}
 use Rattle.build_plan.proofs.plan.imports_at.Goals as goal
 
