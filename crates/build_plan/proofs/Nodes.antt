@@ -10,10 +10,10 @@ use Rattle.build_theory.proofs.Lists.{clash}
 use Rattle.mod_graph.specs.declared.graph.Graph.{Graph}
 use Rattle.mod_graph.specs.declared.input.HeaderOf.{HeaderOf}
 use Rattle.mod_graph.specs.Names.{same_node}
-use Rattle.build_plan.specs.declared.places.Places.{Places}
+use Rattle.build_plan.specs.declared.places.NodePlaces.{NodePlaces}
 use Rattle.build_plan.specs.declared.sources.Source.{Source}
 use Rattle.build_plan.specs.Plan.{IsPlanned}
-use Rattle.build_plan.specs.Steps.{ArePlaces, IsPlace, pairs, place_in}
+use Rattle.build_plan.specs.Positions.{ArePlaces, IsPlace, pairs, place_in}
 use Rattle.build_plan.specs.Tree.{SourceTree, header_at, header_for, ordered}
 use Rattle.build_plan.proofs.Ordering.{source_from, in_sources, is_source}
 use Rattle.build_plan.proofs.Spots.{in_at, one_source, rising_apart}
@@ -26,7 +26,7 @@ place_there qs n (Some i) p e f = let h : ⊥ = cc in h
 abbrev pub paired : List ℕ → Node → Node × List ℕ
 paired s n = (n, s)
 
-module _ (t : SourceTree) (g : Graph) (plan : IsPlanned t g) (places : Places) (sources : List Source) (right : ArePlaces places (pairs sources)) (are : pairs sources ≡ t.sources)
+module _ (t : SourceTree) (g : Graph) (plan : IsPlanned t g) (places : NodePlaces) (sources : List Source) (right : ArePlaces places (pairs sources)) (are : pairs sources ≡ t.sources)
     (n : ℕ) (node : Node) (here : slice_get g.order n ≡ Some node) where
   abbrev place : Option ℕ
   place = place_in places node.boot node.module.text

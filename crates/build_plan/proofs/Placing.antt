@@ -10,7 +10,7 @@ use Rattle.build_theory.proofs.Lists.{both_ways, clash}
 use Rattle.mod_graph.specs.Names.{same_node}
 use Rattle.mod_graph.proofs.NodeTests.{node_itself, nodes_tell}
 use Rattle.build_plan.specs.declared.sources.Source.{Source}
-use Rattle.build_plan.specs.Steps.{IsPlace, pairs}
+use Rattle.build_plan.specs.Positions.{IsPlace, pairs}
 
 both_false : (b c : Bool) → b ≡ false → c ≡ false → (b || c) ≡ false
 both_false b c e f = ap (λ x. x || c) e ∙ f

@@ -15,7 +15,7 @@ use Rattle.mod_graph.proofs.NodeTests.{node_itself, nodes_tell}
 use Rattle.mod_graph.proofs.Numbering.{element_at, finds, found_at}
 use Rattle.build_plan.specs.Tree.{SourceTree, input_of, nodes_of, ordered}
 use Rattle.build_plan.specs.Plan.{IsPlanned}
-use Rattle.build_plan.specs.Steps.{before_place, node_place, seen_place, view_by}
+use Rattle.build_plan.specs.Positions.{before_place, node_place, seen_place, view_by}
 use Rattle.build_plan.proofs.Ordering.{source_from}
 use Rattle.build_plan.proofs.Ordering.{ordered_apart}
 use Rattle.build_plan.proofs.Spots.{one_spot}

@@ -13,7 +13,7 @@ use Rattle.build_plan.specs.declared.sources.Source.{Source}
 use Rattle.mod_graph.specs.Names.{less_node}
 use Rattle.build_plan.specs.Tree.{planning}
 use Rattle.build_plan.specs.Plan.{AreRising}
-use Rattle.build_plan.specs.Steps.{pairs}
+use Rattle.build_plan.specs.Positions.{pairs}
 use Rattle.build_plan.proofs.Order.{planning_ordered, not_less}
 
 module _ {X : Type 0} where

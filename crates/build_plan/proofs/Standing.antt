@@ -19,7 +19,7 @@ use Rattle.package_graph.specs.declared.modules.PackageModule.{PackageModule}
 use Rattle.build_plan.specs.declared.sources.Source.{Source}
 use Rattle.build_plan.specs.Files.{AreDistinct, AreShort}
 use Rattle.build_plan.specs.Plan.{IsStanding, IsShortNode, IsPlanned}
-use Rattle.build_plan.specs.Steps.{pairs}
+use Rattle.build_plan.specs.Positions.{pairs}
 use Rattle.build_plan.specs.Tree.{Settings, SourceTree, header_for, input_of, planning, sorted_tree, source_at, sources_of}
 use Rattle.build_plan.proofs.Alls.{all_join}
 use Rattle.build_plan.proofs.Joined.{graph_order}

@@ -1,4 +1,4 @@
 pub mod Files
 pub mod Plan
-pub mod Steps
+pub mod Positions
 pub mod Tree

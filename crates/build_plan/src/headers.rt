@@ -3,7 +3,7 @@ ghost use Rattle.std.specs.Prelude.{◌≡◌, ◌≤◌, IfOk, List as Row, ℕ
 ghost use Rattle.hs_header.specs.Reading.{header_of};
 ghost use Rattle.mod_graph.specs.Entries as entries;
 ghost use Rattle.build_plan.specs.Tree as spec;
-ghost use Rattle.build_plan.specs.Steps.{pairs};
+ghost use Rattle.build_plan.specs.Positions.{pairs};
 
 use crate::sources::Source;
 use hs_header::header_err::HeaderErr;

@@ -1,7 +1,7 @@
 //! Where what a node sees of the modules that it imports stands in a plan's order.
 ghost use Rattle.std.specs.Prelude.{◌≡◌, ◌<◌, ◌^◌, nat_lt, length, Some, None, IfOk, if◌then◌else◌};
 ghost use Rattle.build_plan.specs.Plan.{IsPlanned};
-ghost use Rattle.build_plan.specs.Steps as steps_spec;
+ghost use Rattle.build_plan.specs.Positions as positions;
 ghost use Rattle.build_plan.specs.Tree.{SourceTree, input_of, nodes_of, ordered};
 
 use hs_syntax::header::ImportItem;
@@ -32,7 +32,7 @@ fn seen_place(
 ) -> Result<Option<usize>, NoMemory>
     requires few { length graph.now.order < 2 ^ 32 }
     requires place { place < length graph.now.order }
-    ensures { IfOk result (λ p. (t : SourceTree) → IsPlanned t graph.now → p ≡ steps_spec.seen_place (input_of t) (nodes_of (ordered t)) place import.now.module.text) }
+    ensures { IfOk result (λ p. (t : SourceTree) → IsPlanned t graph.now → p ≡ positions.seen_place (input_of t) (nodes_of (ordered t)) place import.now.module.text) }
 {
     let name = ModName {
         text: import.module.text.copy(alloc)?,
@@ -54,7 +54,7 @@ pub fn seen_places(
 ) -> Result<Vec<usize>, NoMemory>
     requires few { length graph.now.order < 2 ^ 32 }
     requires place { place < length graph.now.order }
-    ensures { IfOk result (λ ps. (t : SourceTree) → IsPlanned t graph.now → ps.items ≡ steps_spec.import_places (input_of t) (nodes_of (ordered t)) place imports.now) }
+    ensures { IfOk result (λ ps. (t : SourceTree) → IsPlanned t graph.now → ps.items ≡ positions.import_places (input_of t) (nodes_of (ordered t)) place imports.now) }
 {
     let mut places = Vec::new(alloc);
     for import in imports {

@@ -1,7 +1,7 @@
 //! Where a tree's nodes stand.
 ghost use Rattle.std.specs.Prelude.{◌≡◌, ℕ, Bool, List as Row, Some, IfOk, OnOk, if◌then◌else◌};
 ghost use Rattle.mod_graph.specs.Names.{node_named, same_node};
-ghost use Rattle.build_plan.specs.Steps.{ArePlaces, pairs, place_in};
+ghost use Rattle.build_plan.specs.Positions.{ArePlaces, pairs, place_in};
 
 use crate::sources::Source;
 use indexmap::IndexMap;
@@ -10,14 +10,19 @@ use mk_base::name::Node;
 use mk_base::text::Text;
 use std::alloc::Global;
 
-/// The places of nodes by the names of their modules: real nodes and boot nodes.
+/// The places of nodes by the names of their modules: of real nodes and of boot nodes.
 #[derive(Drop)]
-pub struct Places {
+pub struct NodePlaces {
     pub reals: IndexMap<Text, usize>,
     pub boots: IndexMap<Text, usize>,
 }
 
-fn add_place(alloc: Global, places: &mut Places, node: &Node, place: usize) -> Result<(), NoMemory>
+fn add_place(
+    alloc: Global,
+    places: &mut NodePlaces,
+    node: &Node,
+    place: usize,
+) -> Result<(), NoMemory>
     ensures { OnOk result ((boot : Bool) (m : Row ℕ) → place_in places.new boot m ≡ (if same_node node.now (node_named m boot) then Some place else place_in places.old boot m)) }
 {
     let module = node.module.text.copy(alloc)?;
@@ -30,10 +35,10 @@ fn add_place(alloc: Global, places: &mut Places, node: &Node, place: usize) -> R
 }
 
 /// The places of all nodes.
-pub fn places_of(alloc: Global, sources: &[Source<'_>]) -> Result<Places, NoMemory>
+pub fn places_of(alloc: Global, sources: &[Source<'_>]) -> Result<NodePlaces, NoMemory>
     ensures { IfOk result (λ p. ArePlaces p (pairs sources.now)) }
 {
-    let mut places = Places {
+    let mut places = NodePlaces {
         reals: IndexMap::new(alloc),
         boots: IndexMap::new(alloc),
     };
@@ -44,7 +49,7 @@ pub fn places_of(alloc: Global, sources: &[Source<'_>]) -> Result<Places, NoMemo
 }
 
 /// The place of a module's real node, or of its boot node.
-pub fn place_of(places: &Places, boot: bool, name: &Text) -> Option<usize>
+pub fn place_of(places: &NodePlaces, boot: bool, name: &Text) -> Option<usize>
     ensures { result ≡ place_in places.now boot name.now }
 {
     let found = if boot {

@@ -3,7 +3,7 @@ ghost use Rattle.std.specs.Prelude.{◌≡◌, ◌<◌, ◌≤◌, ◌^◌, ℕ,
 ghost use Rattle.mk_base.specs.declared.name.Node.{Node as NodeOf};
 ghost use Rattle.build_plan.specs.Files.{AreDistinct, AreShort};
 ghost use Rattle.build_plan.specs.Plan.{AreNodes, IsPlan, IsPlanned};
-ghost use Rattle.build_plan.specs.Steps.{import_places, pairs};
+ghost use Rattle.build_plan.specs.Positions.{import_places, pairs};
 ghost use Rattle.build_plan.specs.Tree.{Settings, SourceTree, header_for, imports_of, input_of, nodes_of, ordered, sorted_tree};
 
 use crate::headers::{headers_of, imports_in};

@@ -4,7 +4,7 @@ ghost use Rattle.mk_base.specs.declared.name.Node.{Node};
 ghost use Rattle.build_theory.specs.Build.{by_node};
 ghost use Rattle.build_theory.specs.Laws as laws;
 ghost use Rattle.build_plan.specs.Tree.{planning, sources_of};
-ghost use Rattle.build_plan.specs.Steps.{pairs};
+ghost use Rattle.build_plan.specs.Positions.{pairs};
 
 use mk_base::memory::NoMemory;
 use mk_base::name::{Node, order_nodes};

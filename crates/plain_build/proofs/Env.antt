@@ -20,8 +20,8 @@ use Rattle.mod_graph.proofs.Numbering.{any_with, finds, found_at}
 use Rattle.plain_scope.specs.declared.scope.Content.{Content}
 use Rattle.plain_scope.specs.Scope.{contents_at}
 use Rattle.build_plan.specs.Tree.{planning, input_of, nodes_of}
-use Rattle.build_plan.specs.Steps.{before_place, import_places, node_place, one_place, seen_place, view_by}
-use Rattle.plain_build.specs.Plain.{PlainTree, plain, imported, seen}
+use Rattle.build_plan.specs.Positions.{before_place, import_places, node_place, one_place, seen_place, view_by}
+use Rattle.plain_build.specs.Plain.{PlainTree, plain, imported, content_seen}
 use Rattle.plain_build.specs.Result.{PlainJudged}
 use Rattle.plain_build.specs.Done.{AreContents, IsContent}
 use Rattle.plain_build.proofs.Needs.{Stands, standing, not_yet}
@@ -185,7 +185,7 @@ module _ (t : PlainTree) (js : Results) (qs : Sources) (stands : Stands js qs) (
       let at : slice_get ns k ≡ Some d = f.1 ∙ ap (λ x. Some x) (sym (nodes_tell d f.0 f.2)) in
       placed_seen d k at (need k at) (nat_lt k n) refl
 
-  view_seen : (v : Option View) → ((d : Node) → v ≡ Some (Tree d) → (k : ℕ) → slice_get ns k ≡ Some d → k < n → is_need plain t a.0 d ≡ true) → seen env v ≡ contents_at cs (one_place (before_place n (node_place ns v)))
+  view_seen : (v : Option View) → ((d : Node) → v ≡ Some (Tree d) → (k : ℕ) → slice_get ns k ≡ Some d → k < n → is_need plain t a.0 d ≡ true) → content_seen env v ≡ contents_at cs (one_place (before_place n (node_place ns v)))
   view_seen None need = refl
   view_seen (Some (Tree d)) need = tree_seen d (position (same_node d) ns) refl (need d refl)
   view_seen (Some (Package p)) need = refl
@@ -200,7 +200,7 @@ module _ (t : PlainTree) (js : Results) (qs : Sources) (stands : Stands js qs) (
       let own : slice_get ns n ≡ Some a.0 = slice_get-map (λ (q : Node × List ℕ). q.0) qs n ∙ ap (option_map (λ (q : Node × List ℕ). q.0)) here in
       let at : seen_place (input_of t) ns n y.module.text ≡ before_place n (node_place ns (view_of (input_of t) a.0 y.module.text)) =
       ap (λ (o : Option Node). before_place n (node_place ns (view_by (input_of t) o y.module.text))) own in
-      let first : seen env (view_of (input_of t) a.0 y.module.text) ≡ contents_at cs (one_place (seen_place (input_of t) ns n y.module.text)) =
+      let first : content_seen env (view_of (input_of t) a.0 y.module.text) ≡ contents_at cs (one_place (seen_place (input_of t) ns n y.module.text)) =
       view_seen (view_of (input_of t) a.0 y.module.text) (need y (inl refl)) ∙ ap (λ (o : Option ℕ). contents_at cs (one_place o)) (sym at) in
       ap (λ (l : List Content). l ++ imported t a.0 env ys) first
       ∙ ap (λ (l : List Content). contents_at cs (one_place (seen_place (input_of t) ns n y.module.text)) ++ l) (imported_is ys (λ z i. need z (inr i)))

@@ -32,7 +32,7 @@ use Rattle.module_check.specs.Laws.{IsShortContent}
 use Rattle.module_check.proofs.Fitting.{checks_fit}
 use Rattle.build_plan.specs.Tree.{planning, imports_of, input_of, graph_errors, unless_none, nodes_of, ordered}
 use Rattle.build_plan.specs.Plan.{IsShortNode, IsStanding}
-use Rattle.build_plan.specs.Steps.{import_places}
+use Rattle.build_plan.specs.Positions.{import_places}
 use Rattle.plain_build.specs.Plain.{PlainTree, check_settings, plain, imported}
 use Rattle.plain_build.specs.Result.{PlainJudged, IsResult, AreResults, is_checked}
 use Rattle.plain_build.specs.Soundness.{first_unsound}

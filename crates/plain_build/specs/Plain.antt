@@ -27,13 +27,13 @@ abbrev pub PlainTree : Type 0
 PlainTree = SourceTree
 
 -- the content of what a node sees of a module
-abbrev pub seen : List (Node × Content) → Option View → List Content
-seen env (Some (seen_as.Tree m)) = option_to_list (lookup (same_node m) env)
-seen env _ = []
+abbrev pub content_seen : List (Node × Content) → Option View → List Content
+content_seen env (Some (seen_as.Tree m)) = option_to_list (lookup (same_node m) env)
+content_seen env _ = []
 
 -- what the imports of a node offer, each module in the node's view of it
 abbrev pub imported : PlainTree → Node → List (Node × Content) → List ImportItem → List Content
-imported t n env ys = flat_map (λ (y : ImportItem). seen env (view_of (input_of t) n y.module.text)) ys
+imported t n env ys = flat_map (λ (y : ImportItem). content_seen env (view_of (input_of t) n y.module.text)) ys
 
 abbrev pub plain : Language Settings Node (List ℕ) Content Content (List Diag) Reason
 plain = record {

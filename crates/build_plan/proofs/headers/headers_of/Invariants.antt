@@ -1,6 +1,6 @@
 use Rattle.std.proofs.Common.{◌≡◌, ◌++◌, drop, map}
 use Rattle.build_plan.specs.Tree.{header_for}
-use Rattle.build_plan.specs.Steps.{pairs}
+use Rattle.build_plan.specs.Positions.{pairs}
 use Rattle.build_plan.proofs.headers.headers_of.Given as goal
 
 abbrev pub invariant-loop-source : goal.invariant-loop-source

@@ -1,6 +1,6 @@
 use Rattle.std.proofs.Common.{◌≡◌, ◌++◌, drop}
 use Rattle.build_plan.specs.Plan.{IsPlanned}
-use Rattle.build_plan.specs.Steps.{import_places}
+use Rattle.build_plan.specs.Positions.{import_places}
 use Rattle.build_plan.specs.Tree.{SourceTree, input_of, nodes_of, ordered}
 use Rattle.build_plan.proofs.imports.seen_places.Given as goal
 

@@ -3,7 +3,7 @@ use Rattle.std.proofs.lemmas.List.{map-append, take_all}
 use Rattle.mk_base.specs.declared.name.Node.{Node}
 use Rattle.build_plan.specs.declared.sources.Source.{Source}
 use Rattle.mod_graph.specs.Names.{node_named}
-use Rattle.build_plan.specs.Steps.{IsPlace, pairs, place_in}
+use Rattle.build_plan.specs.Positions.{IsPlace, pairs, place_in}
 use Rattle.build_plan.proofs.Placing.{place_next, front_next, pairs_count}
 use Rattle.build_plan.proofs.places.places_of.Goals as goal
 

@@ -1,5 +1,5 @@
 use Rattle.std.proofs.Common.{take}
-use Rattle.build_plan.specs.Steps.{ArePlaces, pairs}
+use Rattle.build_plan.specs.Positions.{ArePlaces, pairs}
 use Rattle.build_plan.proofs.places.places_of.Given as goal
 
 abbrev pub invariant-loop-place : goal.invariant-loop-place

@@ -1,6 +1,6 @@
 use Rattle.std.proofs.Common.{◌≡◌, map}
 use Rattle.build_plan.specs.Plan.{IsPlanned}
-use Rattle.build_plan.specs.Steps.{pairs}
+use Rattle.build_plan.specs.Positions.{pairs}
 use Rattle.build_plan.specs.Tree.{SourceTree, header_for}
 use Rattle.build_plan.proofs.Planning.{AreFirst}
 use Rattle.build_plan.proofs.plan.nodes_in_order.Given as goal

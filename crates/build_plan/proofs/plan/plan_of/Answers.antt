@@ -5,7 +5,7 @@ use Rattle.build_theory.specs.Laws as laws
 use Rattle.mod_graph.specs.declared.input.HeaderOf.{HeaderOf}
 use Rattle.mod_graph.specs.Graph.{AreDistinct}
 use Rattle.build_plan.specs.Plan.{AreNodes}
-use Rattle.build_plan.specs.Steps.{pairs}
+use Rattle.build_plan.specs.Positions.{pairs}
 use Rattle.build_plan.specs.Tree.{Settings, SourceTree, header_for, planning, sorted_tree}
 use Rattle.build_plan.proofs.Entries.{headers_apart}
 use Rattle.build_plan.proofs.Paths.{sources_distinct}

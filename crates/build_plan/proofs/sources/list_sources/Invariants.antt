@@ -1,6 +1,6 @@
 use Rattle.std.proofs.Common.{◌≡◌, ◌++◌, drop}
 use Rattle.build_plan.specs.Tree.{sources_of}
-use Rattle.build_plan.specs.Steps.{pairs}
+use Rattle.build_plan.specs.Positions.{pairs}
 use Rattle.build_plan.proofs.sources.list_sources.Given as goal
 
 abbrev pub invariant-loop-file : goal.invariant-loop-file

@@ -5,7 +5,7 @@ use Rattle.plain_scope.specs.declared.scope.Content.{Content}
 use Rattle.plain_scope.specs.Scope.{contents_at}
 use Rattle.module_check.specs.Check.{check}
 use Rattle.plain_scope.specs.Offered.{IsSound, Fits}
-use Rattle.build_plan.specs.Steps.{import_places}
+use Rattle.build_plan.specs.Positions.{import_places}
 use Rattle.build_plan.specs.Tree.{imports_of, input_of, nodes_of, ordered}
 use Rattle.build_plan.proofs.Planning.{plan_count}
 use Rattle.plain_build.specs.Plain.{PlainTree, check_settings}

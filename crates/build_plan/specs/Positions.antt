@@ -8,14 +8,14 @@ use Rattle.hs_syntax.specs.declared.header.ImportItem.{ImportItem}
 use Rattle.mk_base.specs.Texts.{same_text}
 use Rattle.mod_graph.specs.Names.{same_node, node_named}
 use Rattle.mod_graph.specs.Graph.{Input, View, Tree, view_of}
-use Rattle.build_plan.specs.declared.places.Places.{Places}
+use Rattle.build_plan.specs.declared.places.NodePlaces.{NodePlaces}
 use Rattle.build_plan.specs.declared.sources.Source.{Source}
 
 abbrev pub pairs : List Source → List (Node × List ℕ)
 pairs sources = map (λ (s : Source). (s.node, s.bytes.now)) sources
 
 -- where the module's boot node or its real one stands
-abbrev pub place_in : Places → Bool → List ℕ → Option ℕ
+abbrev pub place_in : NodePlaces → Bool → List ℕ → Option ℕ
 place_in p true m = get same_text p.boots m
 place_in p false m = get same_text p.reals m
 
@@ -24,7 +24,7 @@ abbrev pub IsPlace : List (Node × List ℕ) → Node → Option ℕ → Type 0
 IsPlace qs n None = list_any (λ q. same_node n q.0) qs ≡ false
 IsPlace qs n (Some i) = (s : List ℕ) × (slice_get qs i ≡ Some (n, s))
 
-abbrev pub ArePlaces : Places → List (Node × List ℕ) → Type 0
+abbrev pub ArePlaces : NodePlaces → List (Node × List ℕ) → Type 0
 ArePlaces p qs = (boot : Bool) (m : List ℕ) → IsPlace qs (node_named m boot) (place_in p boot m)
 
 -- the place of a node that is seen, in an order
