@@ -36,6 +36,10 @@ pub tree_settings : (input : PlainBuild) (unit : List ℕ) → unit ≡ input.un
 unfolding plan.sorted_tree
 tree_settings input unit e = ap (λ u. settings_of u input.restrict) e
 
+pub on_any : {X E : Type 0} (r : Result X E) (P : Type 0) → P → OnOk r P
+on_any (Ok x) P p = p
+on_any (Err e) P p = tt
+
 pub on_three : {X E : Type 0} (r : Result X E) (P Q R S : Type 0) → (P → Q → R → S) → OnOk r P → OnOk r Q → OnOk r R → OnOk r S
 on_three (Ok x) P Q R S f p q r = f p q r
 on_three (Err e) P Q R S f p q r = tt

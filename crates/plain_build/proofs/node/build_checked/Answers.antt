@@ -12,7 +12,7 @@ use Rattle.plain_build.specs.Plain.{PlainTree, check_settings}
 use Rattle.plain_build.specs.Result.{is_checked}
 use Rattle.plain_build.specs.NodeResults.{empty_content, checked_how, result_of, HasSound}
 use Rattle.plain_build.specs.Done.{IsDone, judged_next, sorted_tree}
-use Rattle.plain_build.proofs.Exits.{tree_unit, on_three, given_is, place_below}
+use Rattle.plain_build.proofs.Exits.{tree_unit, on_any, on_three, given_is, place_below}
 use Rattle.plain_build.proofs.Next.{short_source, imports_within, has_interface, next_sound, next_wrong, ok_content, err_diags}
 use Rattle.plain_build.proofs.node.build_checked.Goals as goal
 
@@ -52,7 +52,7 @@ put_sound-requires-clause-sound g c =
     let unit : c.as_slice-unit.result.now ≡ t.settings.unit = c.as_slice-unit.ensures ∙ sym (tree_unit c.args.building.now.input.now) in
     let given : List Content = contents_at old.contents.items (import_places (input_of t) (nodes_of (ordered t)) c.args.place (imports_of t.settings a.0 a.1)) in
     let told : ok_content c.in-Ok.content ≡ check (check_settings t.settings) a.0 a.1 given =
-    sym c.in-Ok.is ∙ given_is c.in_ok-content.field-0 _ _ _ _ _ _ _ _ c.in_ok-content.ensures c.requires.settings c.as_slice-contents.ensures.value places in
+    sym c.in-Ok.is ∙ given_is c.in_ok-content.field-0 _ _ _ _ _ _ _ _ c.in_ok-content.ensures.check c.requires.settings c.as_slice-contents.ensures.value places in
     subst (λ (u : List ℕ). IsSound u c.in-Ok.content) (sym unit) (has_interface t c.requires.plan.graph.standing c.args.place a c.requires.source old c.requires.done c.requires.free c.in-Ok.content told).0
 
 pub put_sound-requires-clause-fits : goal.put_sound-requires-clause-fits
@@ -65,7 +65,7 @@ put_sound-requires-clause-fits g c =
     let unit : c.as_slice-unit.result.now ≡ t.settings.unit = c.as_slice-unit.ensures ∙ sym (tree_unit c.args.building.now.input.now) in
     let given : List Content = contents_at old.contents.items (import_places (input_of t) (nodes_of (ordered t)) c.args.place (imports_of t.settings a.0 a.1)) in
     let told : ok_content c.in-Ok.content ≡ check (check_settings t.settings) a.0 a.1 given =
-    sym c.in-Ok.is ∙ given_is c.in_ok-content.field-0 _ _ _ _ _ _ _ _ c.in_ok-content.ensures c.requires.settings c.as_slice-contents.ensures.value places in
+    sym c.in-Ok.is ∙ given_is c.in_ok-content.field-0 _ _ _ _ _ _ _ _ c.in_ok-content.ensures.check c.requires.settings c.as_slice-contents.ensures.value places in
     subst (λ (u : List ℕ). Fits u c.in-Ok.content) (sym unit) (has_interface t c.requires.plan.graph.standing c.args.place a c.requires.source old c.requires.done c.requires.free c.in-Ok.content told).1
 
 pub returns-in-Ok : goal.returns-in-Ok
@@ -78,16 +78,19 @@ returns-in-Ok g c =
     let unit : c.as_slice-unit.result.now ≡ t.settings.unit = c.as_slice-unit.ensures ∙ sym (tree_unit c.args.building.now.input.now) in
     let given : List Content = contents_at old.contents.items (import_places (input_of t) (nodes_of (ordered t)) c.args.place (imports_of t.settings a.0 a.1)) in
     let told : ok_content c.in-Ok.content ≡ check (check_settings t.settings) a.0 a.1 given =
-    sym c.in-Ok.is ∙ given_is c.in_ok-content.field-0 _ _ _ _ _ _ _ _ c.in_ok-content.ensures c.requires.settings c.as_slice-contents.ensures.value places in
+    sym c.in-Ok.is ∙ given_is c.in_ok-content.field-0 _ _ _ _ _ _ _ _ c.in_ok-content.ensures.check c.requires.settings c.as_slice-contents.ensures.value places in
     let new = c.put_sound.new.done in
     let exit = next_sound t c.requires.plan.graph.standing c.args.place a c.requires.source old c.requires.done c.requires.free new c.in-Ok.content told in
     let R : Type 0 = HasSound c.as_slice-unit.result.now a.0 c.in-Ok.content old.results new.results in
     let C : Type 0 = new.contents.items ≡ old.contents.items ++ c.in-Ok.content ∷ [] in
     let B : Type 0 = new.sound.items ≡ old.sound.items ++ true ∷ [] in
     let own : R → HasSound t.settings.unit a.0 c.in-Ok.content old.results new.results = λ r. subst (λ (u : List ℕ). HasSound u a.0 c.in-Ok.content old.results new.results) unit r in
+    let ticked : c.check.new.steps ≡ c.args.steps.now + 1 = c.in_ok-content.ensures.ticked in
     record {
       done = on_three c.put_sound.result R C B (IsDone t new (c.args.place + 1)) (λ r x y. (exit (own r) x y).0) c.put_sound.ensures.results c.put_sound.ensures.contents c.put_sound.ensures.kept;
       checked = on_three c.put_sound.result R C B (is_checked (judged_next t a c.args.place).how ≡ 1) (λ r x y. (exit (own r) x y).1) c.put_sound.ensures.results c.put_sound.ensures.contents c.put_sound.ensures.kept;
+      ticked = on_any c.put_sound.result (c.check.new.steps ≡ c.args.steps.now + 1) ticked;
+      later = omega (arith, ticked);
     }
 
 pub returns : goal.returns
@@ -100,14 +103,17 @@ returns g c =
     let unit : c.as_slice-unit.result.now ≡ t.settings.unit = c.as_slice-unit.ensures ∙ sym (tree_unit c.args.building.now.input.now) in
     let given : List Content = contents_at old.contents.items (import_places (input_of t) (nodes_of (ordered t)) c.args.place (imports_of t.settings a.0 a.1)) in
     let told : err_diags c.in-Err.diags ≡ check (check_settings t.settings) a.0 a.1 given =
-    sym c.in-Err.is ∙ given_is c.in_ok-content.field-0 _ _ _ _ _ _ _ _ c.in_ok-content.ensures c.requires.settings c.as_slice-contents.ensures.value places in
+    sym c.in-Err.is ∙ given_is c.in_ok-content.field-0 _ _ _ _ _ _ _ _ c.in_ok-content.ensures.check c.requires.settings c.as_slice-contents.ensures.value places in
     let new = c.put_unsound.new.done in
     let exit = next_wrong t c.requires.plan.graph.standing c.args.place a c.requires.source old c.requires.done c.requires.free new c.in-Err.diags told in
     let R : Type 0 = new.results ≡ old.results ++ result_of a.0 c.how_checked.result c.in-Err.diags None ∷ [] in
     let C : Type 0 = new.contents.items ≡ old.contents.items ++ empty_content ∷ [] in
     let B : Type 0 = new.sound.items ≡ old.sound.items ++ false ∷ [] in
     let own : R → new.results ≡ old.results ++ result_of a.0 checked_how c.in-Err.diags None ∷ [] = λ r. r ∙ ap (λ h. old.results ++ result_of a.0 h c.in-Err.diags None ∷ []) c.how_checked.ensures in
+    let ticked : c.check.new.steps ≡ c.args.steps.now + 1 = c.in_ok-content.ensures.ticked in
     record {
       done = on_three c.put_unsound.result R C B (IsDone t new (c.args.place + 1)) (λ r x y. (exit (own r) x y).0) c.put_unsound.ensures.results c.put_unsound.ensures.contents c.put_unsound.ensures.sound;
       checked = on_three c.put_unsound.result R C B (is_checked (judged_next t a c.args.place).how ≡ 1) (λ r x y. (exit (own r) x y).1) c.put_unsound.ensures.results c.put_unsound.ensures.contents c.put_unsound.ensures.sound;
+      ticked = on_any c.put_unsound.result (c.check.new.steps ≡ c.args.steps.now + 1) ticked;
+      later = omega (arith, ticked);
     }
