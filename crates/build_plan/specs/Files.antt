@@ -8,6 +8,6 @@ abbrev pub AreDistinct : List File → Type 0
 AreDistinct [] = Unit {0}
 AreDistinct (f ∷ fs) = AllByRecursion (λ (g : File). f.name ≡ g.name → ⊥) fs × AreDistinct fs
 
--- the names of the files have at most 1,048,576 bytes
+-- the names of the files have fewer than 2^32 bytes
 abbrev pub AreShort : List File → Type 0
 AreShort files = AllByRecursion (λ (f : File). length f.name < 2 ^ 32) files

@@ -19,7 +19,7 @@ AreRising (q ∷ qs) = AllByRecursion (λ r. less_node q.0 r.0 ≡ true) qs × A
 abbrev pub IsShortNode : Node × List ℕ → Type 0
 IsShortNode q = length q.0.module.text < 2 ^ 32
 
--- A tree whose sources stand by node, with names of at most 1 MiB.
+-- A tree whose sources stand by node, with names of fewer than 2^32 bytes.
 pub record IsStanding (t : SourceTree) : Type 0 where
   pub rising : AreRising t.sources
   pub unit : length t.settings.unit ≤ 64

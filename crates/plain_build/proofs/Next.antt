@@ -3,7 +3,7 @@ use Rattle.std.proofs.Common.{◌^◌, ◌≡◌, ℕ, zero, suc, ◌+◌, ◌<�
 use Rattle.std.specs.Prelude.{slice_get, filter, nat_eq, Result, Ok, Err}
 use Rattle.std.specs.declared.option.Option.{Option}
 use Rattle.std.specs.Option.{option_map_or, option_map, option_to_list}
-use Rattle.std.specs.List.{list_any, AllByRecursion}
+use Rattle.std.specs.List.{AllByRecursion}
 use Rattle.std.proofs.lemmas.List.{map-append}
 use Rattle.std.proofs.lemmas.Option.{same_Some, slice_get-map, slice_get_within}
 use Rattle.mk_base.specs.declared.name.Node.{Node}
@@ -18,7 +18,6 @@ use Rattle.build_theory.specs.Laws.{IsIn, AreDistinct}
 use Rattle.build_theory.proofs.Lists.{both_ways, all_at}
 use Rattle.build_theory.proofs.Fold.{results_app}
 use Rattle.numbered_nodes.proofs.Booleans.{is_other}
-use Rattle.mod_graph.specs.Names.{same_node}
 use Rattle.mod_graph.specs.Edges.{needs_node}
 use Rattle.mod_graph.specs.Graph.{Tree, entries, ids, needs_in, needs_place, view_of, errors_by}
 use Rattle.mod_graph.proofs.Numbering.{element_at}

@@ -1,7 +1,7 @@
 use Rattle.build_plan.specs.Plan.{IsPlan}
 use Rattle.plain_build.specs.Result.{settings_in}
 use Rattle.plain_build.proofs.Trees.{unit_length}
-use Rattle.std.proofs.Common.{ap, sym, subst, refl, ◌≡◌, List}
+use Rattle.std.proofs.Common.{subst, refl, List}
 use Rattle.mk_io.specs.declared.file.File.{File}
 use Rattle.build_plan.specs.Tree.{sorted_tree}
 use Rattle.plain_build.proofs.build.build_plain.Goals as goal
