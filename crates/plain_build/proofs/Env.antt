@@ -19,12 +19,14 @@ use Rattle.mod_graph.proofs.NodeTests.{node_itself, nodes_tell}
 use Rattle.mod_graph.proofs.Numbering.{any_with, finds, found_at}
 use Rattle.plain_scope.specs.declared.scope.Content.{Content}
 use Rattle.plain_scope.specs.Scope.{contents_at}
-use Rattle.plain_build.specs.Plain.{PlainTree, plain, imported, input_of, seen}
+use Rattle.build_plan.specs.Tree.{planning, input_of, nodes_of}
+use Rattle.build_plan.specs.Positions.{before_place, import_places, node_place, one_place, seen_place, view_by}
+use Rattle.plain_build.specs.Plain.{PlainTree, plain, imported, content_seen}
 use Rattle.plain_build.specs.Result.{PlainJudged}
-use Rattle.plain_build.specs.Steps.{before_place, import_places, node_place, one_place, seen_place, view_by}
-use Rattle.plain_build.specs.Done.{AreContents, IsContent, nodes_of}
+use Rattle.plain_build.specs.Done.{AreContents, IsContent}
 use Rattle.plain_build.proofs.Needs.{Stands, standing, not_yet}
-use Rattle.plain_build.proofs.Spots.{in_at}
+use Rattle.build_plan.proofs.Ordering.{source_from}
+use Rattle.build_plan.proofs.Spots.{in_at}
 
 abbrev Sources : Type 0
 Sources = List (Node × List ℕ)
@@ -97,11 +99,6 @@ unplaced n ns e = both_ways (list_any (same_node n) ns)
     absurd (let g : None ≡ Some f.0 = sym e ∙ f.1 in let k : ⊥ = cc in k))
     (λ h. h)
 
-pub source_from : (qs : Sources) (k : ℕ) (d : Node) → slice_get (nodes_of qs) k ≡ Some d → (q : Node × List ℕ) × (slice_get qs k ≡ Some q) × (q.0 ≡ d)
-source_from [] k d e = absurd (let h : ⊥ = cc in h)
-source_from (q ∷ qs) zero d e = (q, refl, same_Some q.0 d e)
-source_from (q ∷ qs) (suc k) d e = source_from qs k d e
-
 content_of_sound : (c : Content) (o : Outcome Node Content (List Diag)) → IsContent c o → is_sound o ≡ true → o ≡ Sound c
 content_of_sound c (Sound b) h e = ap (λ x. Sound x) (sym h)
 content_of_sound c (Failed ds) h e = absurd (differ (sym e))
@@ -149,7 +146,7 @@ contents_join : (cs : List Content) (ps rs : List ℕ) → contents_at cs (ps ++
 contents_join cs [] rs = refl
 contents_join cs (p ∷ ps) rs = ap (λ l. option_to_list (slice_get cs p) ++ l) (contents_join cs ps rs) ∙ sym (append_assoc (option_to_list (slice_get cs p)) (contents_at cs ps) (contents_at cs rs))
 
-module _ (t : PlainTree) (js : Results) (qs : Sources) (stands : Stands js qs) (apart : AreDistinct plain qs) (whole : (q : Node × List ℕ) → IsIn q qs → list_any (λ (p : Node × List ℕ). same_node q.0 p.0) t.sources ≡ true)
+module _ (t : PlainTree) (js : Results) (qs : Sources) (stands : Stands js qs) (apart : AreDistinct planning qs) (whole : (q : Node × List ℕ) → IsIn q qs → list_any (λ (p : Node × List ℕ). same_node q.0 p.0) t.sources ≡ true)
     (cs : List Content) (contents : AreContents cs js) (n : ℕ) (many : length js ≡ n) (a : Node × List ℕ) (here : slice_get qs n ≡ Some a)
     (sound : (q : Node × List ℕ) → IsIn q qs → is_need plain t a.0 q.0 ≡ true → is_sound_in plain (outcomes js) q.0 ≡ true) where
   abbrev env : List (Node × Content)
@@ -188,7 +185,7 @@ module _ (t : PlainTree) (js : Results) (qs : Sources) (stands : Stands js qs) (
       let at : slice_get ns k ≡ Some d = f.1 ∙ ap (λ x. Some x) (sym (nodes_tell d f.0 f.2)) in
       placed_seen d k at (need k at) (nat_lt k n) refl
 
-  view_seen : (v : Option View) → ((d : Node) → v ≡ Some (Tree d) → (k : ℕ) → slice_get ns k ≡ Some d → k < n → is_need plain t a.0 d ≡ true) → seen env v ≡ contents_at cs (one_place (before_place n (node_place ns v)))
+  view_seen : (v : Option View) → ((d : Node) → v ≡ Some (Tree d) → (k : ℕ) → slice_get ns k ≡ Some d → k < n → is_need plain t a.0 d ≡ true) → content_seen env v ≡ contents_at cs (one_place (before_place n (node_place ns v)))
   view_seen None need = refl
   view_seen (Some (Tree d)) need = tree_seen d (position (same_node d) ns) refl (need d refl)
   view_seen (Some (Package p)) need = refl
@@ -203,7 +200,7 @@ module _ (t : PlainTree) (js : Results) (qs : Sources) (stands : Stands js qs) (
       let own : slice_get ns n ≡ Some a.0 = slice_get-map (λ (q : Node × List ℕ). q.0) qs n ∙ ap (option_map (λ (q : Node × List ℕ). q.0)) here in
       let at : seen_place (input_of t) ns n y.module.text ≡ before_place n (node_place ns (view_of (input_of t) a.0 y.module.text)) =
       ap (λ (o : Option Node). before_place n (node_place ns (view_by (input_of t) o y.module.text))) own in
-      let first : seen env (view_of (input_of t) a.0 y.module.text) ≡ contents_at cs (one_place (seen_place (input_of t) ns n y.module.text)) =
+      let first : content_seen env (view_of (input_of t) a.0 y.module.text) ≡ contents_at cs (one_place (seen_place (input_of t) ns n y.module.text)) =
       view_seen (view_of (input_of t) a.0 y.module.text) (need y (inl refl)) ∙ ap (λ (o : Option ℕ). contents_at cs (one_place o)) (sym at) in
       ap (λ (l : List Content). l ++ imported t a.0 env ys) first
       ∙ ap (λ (l : List Content). contents_at cs (one_place (seen_place (input_of t) ns n y.module.text)) ++ l) (imported_is ys (λ z i. need z (inr i)))

@@ -7,10 +7,7 @@ use Rattle.std.specs.declared.option.Option.{Option}
 use Rattle.std.proofs.lemmas.Option.{slice_get-map, slice_get_within}
 use Rattle.mk_base.specs.declared.name.Node.{Node}
 use Rattle.mk_base.specs.declared.diag.Diag.{Diag}
-use Rattle.hs_syntax.specs.declared.header.Header.{Header}
-use Rattle.hs_syntax.specs.declared.header.ImportItem.{ImportItem}
 use Rattle.mod_graph.specs.declared.graph.Graph.{Graph}
-use Rattle.mod_graph.specs.Entries.{imports_in}
 use Rattle.mod_graph.specs.Graph.{Input, entries, errors_by, ids, needs_in}
 use Rattle.mod_graph.specs.Kept.{IsGraph}
 use Rattle.mk_base.specs.declared.place.NodeId.{NodeId}
@@ -20,12 +17,15 @@ use Rattle.unbuilt_forms.specs.Unbuilt.{is_told}
 use Rattle.module_check.specs.Check.{check}
 use Rattle.module_check.specs.declared.check.CheckSettings.{CheckSettings}
 use Rattle.plain_build.specs.declared.build.PlainBuild.{PlainBuild}
-use Rattle.plain_build.specs.Plain.{PlainTree, check_settings, graph_errors, header_at, imports_of, input_of, unless_none}
-use Rattle.plain_build.specs.Steps.{first_unsound, import_places}
-use Rattle.plain_build.specs.Done.{IsPlanned, nodes_of, ordered, sorted_tree}
+use Rattle.build_plan.specs.Tree as plan
+use Rattle.build_plan.specs.Tree.{graph_errors, input_of, nodes_of, ordered, unless_none}
+use Rattle.build_plan.specs.Plan.{IsPlanned}
+use Rattle.plain_build.specs.Plain.{PlainTree, check_settings}
+use Rattle.plain_build.specs.Soundness.{first_unsound}
+use Rattle.plain_build.specs.Done.{sorted_tree}
 
 pub tree_unit : (input : PlainBuild) → (sorted_tree input).settings.unit ≡ input.unit.text
-unfolding sorted_tree
+unfolding plan.sorted_tree
 tree_unit input = refl
 
 abbrev pub settings_of : List ℕ → Bool → CheckSettings
@@ -33,12 +33,12 @@ settings_of unit restrict = record { unit = record { text = unit }; restrict = r
 
 -- what a check goes by
 pub tree_settings : (input : PlainBuild) (unit : List ℕ) → unit ≡ input.unit.text → settings_of unit input.restrict ≡ check_settings (sorted_tree input).settings
-unfolding sorted_tree
+unfolding plan.sorted_tree
 tree_settings input unit e = ap (λ u. settings_of u input.restrict) e
 
-pub tree_prelude : (input : PlainBuild) → (sorted_tree input).settings.prelude ≡ input.prelude
-unfolding sorted_tree
-tree_prelude input = refl
+pub on_any : {X E : Type 0} (r : Result X E) (P : Type 0) → P → OnOk r P
+on_any (Ok x) P p = p
+on_any (Err e) P p = tt
 
 pub on_three : {X E : Type 0} (r : Result X E) (P Q R S : Type 0) → (P → Q → R → S) → OnOk r P → OnOk r Q → OnOk r R → OnOk r S
 on_three (Ok x) P Q R S f p q r = f p q r
@@ -58,15 +58,6 @@ one_ticked k l n e f = omega arith
 pub given_is : (k : Result Content (List Diag)) (g h : CheckSettings) (n : Node) (s : List ℕ) (cs ds : List Content) (is js : List ℕ) → k ≡ check g n s (contents_at cs is) → g ≡ h → cs ≡ ds → is ≡ js → k ≡ check h n s (contents_at ds js)
 given_is k g h n s cs ds is js e a d f =
     e ∙ ap (λ x. check x n s (contents_at cs is)) a ∙ ap (λ x. check h n s (contents_at x is)) d ∙ ap (λ x. check h n s (contents_at ds x)) f
-
--- the imports of a node's header are those of its source
-pub header_imports : (input : PlainBuild) (h : Result Header Diag) (a : Node × List ℕ) (is : List ImportItem) → is ≡ imports_in input.prelude h → h ≡ header_at a.0 a.1 → is ≡ imports_of (sorted_tree input).settings a.0 a.1
-header_imports input h a is e f = e ∙ ap (imports_in input.prelude) f ∙ ap (λ (p : Bool). imports_in p (header_at a.0 a.1)) (sym (tree_prelude input))
-
--- the places of the imports, in the tree's order
-pub tree_places : (t : PlainTree) (g : Graph) (n : ℕ) (a : Node × List ℕ) (is : List ImportItem) (ps : List ℕ) → IsPlanned t g → ps ≡ import_places (input_of t) g.order n is → is ≡ imports_of t.settings a.0 a.1
-    → ps ≡ import_places (input_of t) (nodes_of (ordered t)) n (imports_of t.settings a.0 a.1)
-tree_places t g n a is ps plan e f = e ∙ ap (λ (ns : List Node). import_places (input_of t) ns n is) plan.order ∙ ap (import_places (input_of t) (nodes_of (ordered t)) n) f
 
 -- the place of a node is one of the graph's
 pub place_below : (t : PlainTree) (g : Graph) (n : ℕ) (a : Node × List ℕ) → IsPlanned t g → slice_get (ordered t) n ≡ Some a → n < length g.order

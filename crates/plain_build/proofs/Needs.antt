@@ -21,11 +21,12 @@ use Rattle.mod_graph.specs.Edges.{needs_node}
 use Rattle.mod_graph.specs.Graph.{entries, ids, needs_place, needs_in}
 use Rattle.mod_graph.proofs.NodeTests.{node_itself}
 use Rattle.plain_scope.specs.declared.scope.Content.{Content}
-use Rattle.plain_build.specs.Plain.{PlainTree, plain, input_of}
+use Rattle.build_plan.specs.Tree.{planning, input_of, nodes_of}
+use Rattle.plain_build.specs.Plain.{PlainTree, plain}
 use Rattle.plain_build.specs.Result.{PlainJudged}
-use Rattle.plain_build.specs.Steps.{is_kept, first_unsound}
-use Rattle.plain_build.specs.Done.{nodes_of, soundness}
-use Rattle.plain_build.proofs.Spots.{in_at, one_spot, other_nodes}
+use Rattle.plain_build.specs.Soundness.{is_sound_at, first_unsound}
+use Rattle.plain_build.specs.Done.{soundness}
+use Rattle.build_plan.proofs.Spots.{in_at, one_spot, other_nodes}
 
 abbrev Sources : Type 0
 Sources = List (Node × List ℕ)
@@ -42,11 +43,11 @@ Stands [] qs = Unit {0}
 Stands (j ∷ js) [] = ⊥
 Stands (j ∷ js) (q ∷ qs) = (j.0 ≡ q.0) × Stands js qs
 
-other_before : (j : Node × PlainJudged) (p q : Node × List ℕ) (qs : Sources) (k : ℕ) → j.0 ≡ p.0 → AreDistinct plain (p ∷ qs) → slice_get qs k ≡ Some q → same_node q.0 j.0 ≡ false
+other_before : (j : Node × PlainJudged) (p q : Node × List ℕ) (qs : Sources) (k : ℕ) → j.0 ≡ p.0 → AreDistinct planning (p ∷ qs) → slice_get qs k ≡ Some q → same_node q.0 j.0 ≡ false
 other_before j p q qs k s d e = other_nodes q.0 j.0 (λ h. all_at (λ (g : Node × List ℕ). p.0 ≡ g.0 → ⊥) qs q (in_at qs k q e) d.0 (sym s ∙ sym h))
 
 -- the result at a place is the one that is found for its node
-pub standing : (js : Results) (qs : Sources) → Stands js qs → AreDistinct plain qs → (k : ℕ) (q : Node × List ℕ) → k < length js → slice_get qs k ≡ Some q
+pub standing : (js : Results) (qs : Sources) → Stands js qs → AreDistinct planning qs → (k : ℕ) (q : Node × List ℕ) → k < length js → slice_get qs k ≡ Some q
     → (j : Node × PlainJudged) × (slice_get js k ≡ Some j) × (lookup (same_node q.0) (outcomes js) ≡ Some j.1.outcome)
 standing [] qs s d k q h e = absurd (omega arith)
 standing (j ∷ js) [] s d k q h e = absurd s
@@ -57,23 +58,23 @@ standing (j ∷ js) (p ∷ qs) s d (suc k) q h e =
     (rest.0, rest.1, look_no (same_node q.0) (j.0, j.1.outcome) (outcomes js) (other_before j p q qs k s.0 d e) ∙ rest.2)
 
 -- and none is found for a node behind them
-pub not_yet : (js : Results) (qs : Sources) → Stands js qs → AreDistinct plain qs → (k : ℕ) (q : Node × List ℕ) → length js ≤ k → slice_get qs k ≡ Some q → lookup (same_node q.0) (outcomes js) ≡ None
+pub not_yet : (js : Results) (qs : Sources) → Stands js qs → AreDistinct planning qs → (k : ℕ) (q : Node × List ℕ) → length js ≤ k → slice_get qs k ≡ Some q → lookup (same_node q.0) (outcomes js) ≡ None
 not_yet [] qs s d k q h e = refl
 not_yet (j ∷ js) [] s d k q h e = absurd s
 not_yet (j ∷ js) (p ∷ qs) s d zero q h e = absurd (omega arith)
 not_yet (j ∷ js) (p ∷ qs) s d (suc k) q h e = look_no (same_node q.0) (j.0, j.1.outcome) (outcomes js) (other_before j p q qs k s.0 d e) ∙ not_yet js qs s.1 d.1 k q (omega arith) e
 
-kept_at : (js : Results) (k : ℕ) (j : Node × PlainJudged) → slice_get js k ≡ Some j → is_kept (soundness js) k ≡ is_sound j.1.outcome
+kept_at : (js : Results) (k : ℕ) (j : Node × PlainJudged) → slice_get js k ≡ Some j → is_sound_at (soundness js) k ≡ is_sound j.1.outcome
 kept_at js k j e =
     ap (λ (o : Option Bool). option_map_or (λ (b : Bool). b) o false) (slice_get-map (λ (j : Node × PlainJudged). is_sound j.1.outcome) js k ∙ ap (option_map (λ (j : Node × PlainJudged). is_sound j.1.outcome)) e)
 
-kept_past : (js : Results) (k : ℕ) → length js ≤ k → is_kept (soundness js) k ≡ false
+kept_past : (js : Results) (k : ℕ) → length js ≤ k → is_sound_at (soundness js) k ≡ false
 kept_past js k h =
     let count : length (soundness js) ≡ length js = length-map js (λ (j : Node × PlainJudged). is_sound j.1.outcome) in
     ap (λ (o : Option Bool). option_map_or (λ (b : Bool). b) o false) (slice_get_past (soundness js) k (omega arith))
 
 -- whether the node at a place is sound
-pub sound_at : (js : Results) (qs : Sources) → Stands js qs → AreDistinct plain qs → (k : ℕ) (q : Node × List ℕ) → slice_get qs k ≡ Some q → is_sound_in plain (outcomes js) q.0 ≡ is_kept (soundness js) k
+pub sound_at : (js : Results) (qs : Sources) → Stands js qs → AreDistinct planning qs → (k : ℕ) (q : Node × List ℕ) → slice_get qs k ≡ Some q → is_sound_in plain (outcomes js) q.0 ≡ is_sound_at (soundness js) k
 sound_at js qs s d k q e = elim (cases_lt k (length js)) [
   | inl lt ↦ let j = standing js qs s d k q lt e in ap (λ o. option_map_or is_sound o false) j.2 ∙ sym (kept_at js k j.0 j.1)
   | inr ge ↦ ap (λ o. option_map_or is_sound o false) (not_yet js qs s d k q ge e) ∙ sym (kept_past js k ge)
@@ -170,7 +171,7 @@ none_bad t m done (p ∷ qs) e q i need =
       | inr j ↦ none_bad t m done qs rest q j need
     ])
 
-module _ (t : PlainTree) (js : Results) (qs : Sources) (stands : Stands js qs) (apart : AreDistinct plain qs) (whole : (q : Node × List ℕ) → IsIn q qs → list_any (λ (p : Node × List ℕ). same_node q.0 p.0) t.sources ≡ true)
+module _ (t : PlainTree) (js : Results) (qs : Sources) (stands : Stands js qs) (apart : AreDistinct planning qs) (whole : (q : Node × List ℕ) → IsIn q qs → list_any (λ (p : Node × List ℕ). same_node q.0 p.0) t.sources ≡ true)
     (n : ℕ) (a : Node × List ℕ) (here : slice_get qs n ≡ Some a) where
   abbrev needed : ℕ → Bool
   needed k = not (nat_eq k n) && needs_place (entries (input_of t)) a.0 (slice_get (nodes_of qs) k)
@@ -199,18 +200,18 @@ module _ (t : PlainTree) (js : Results) (qs : Sources) (stands : Stands js qs) (
   nothing true c = refl
   nothing false c = refl
 
-  no_need : (k : ℕ) → slice_get qs k ≡ None → (needed k && not (is_kept (soundness js) k)) ≡ false
+  no_need : (k : ℕ) → slice_get qs k ≡ None → (needed k && not (is_sound_at (soundness js) k)) ≡ false
   no_need k e =
       let out : slice_get (nodes_of qs) k ≡ None = slice_get-map (λ (q : Node × List ℕ). q.0) qs k ∙ ap (option_map (λ (q : Node × List ℕ). q.0)) e in
-      ap (λ (o : Option Node). (not (nat_eq k n) && needs_place (entries (input_of t)) a.0 o) && not (is_kept (soundness js) k)) out ∙ nothing (not (nat_eq k n)) (not (is_kept (soundness js) k))
+      ap (λ (o : Option Node). (not (nat_eq k n) && needs_place (entries (input_of t)) a.0 o) && not (is_sound_at (soundness js) k)) out ∙ nothing (not (nat_eq k n)) (not (is_sound_at (soundness js) k))
 
   bad_at : (k : ℕ) (o : Option (Node × List ℕ)) → slice_get qs k ≡ o
-      → option_map_or (λ (q : Node × List ℕ). is_need plain t a.0 q.0 && not (is_sound_in plain (outcomes js) q.0)) o false ≡ (needed k && not (is_kept (soundness js) k))
+      → option_map_or (λ (q : Node × List ℕ). is_need plain t a.0 q.0 && not (is_sound_in plain (outcomes js) q.0)) o false ≡ (needed k && not (is_sound_at (soundness js) k))
   bad_at k None e = sym (no_need k e)
   bad_at k (Some q) e = ap (λ b. b && not (is_sound_in plain (outcomes js) q.0)) (need_at k q e) ∙ ap (λ b. needed k && not b) (sound_at js qs stands apart k q e)
 
   abbrev unsound : ℕ → Bool
-  unsound k = not (is_kept (soundness js) k)
+  unsound k = not (is_sound_at (soundness js) k)
 
   found_is : (needs : List NodeId) → ids needs ≡ needs_in (entries (input_of t)) (nodes_of qs) n a.0 → option_map (λ (n : NodeId). n.0) (first_unsound (soundness js) needs) ≡ find unsound (below (length (nodes_of qs)) needed)
   found_is needs are = found_ids unsound needs ∙ ap (find unsound) are

@@ -3,7 +3,7 @@ use Rattle.std.proofs.Common.{◌^◌, ◌≡◌, ℕ, zero, suc, ◌+◌, ◌<�
 use Rattle.std.specs.Prelude.{slice_get, filter, nat_eq, Result, Ok, Err}
 use Rattle.std.specs.declared.option.Option.{Option}
 use Rattle.std.specs.Option.{option_map_or, option_map, option_to_list}
-use Rattle.std.specs.List.{list_any, AllByRecursion}
+use Rattle.std.specs.List.{AllByRecursion}
 use Rattle.std.proofs.lemmas.List.{map-append}
 use Rattle.std.proofs.lemmas.Option.{same_Some, slice_get-map, slice_get_within}
 use Rattle.mk_base.specs.declared.name.Node.{Node}
@@ -13,14 +13,11 @@ use Rattle.hs_syntax.specs.declared.header.ImportItem.{ImportItem}
 use Rattle.face_model.specs.declared.result.Reason.TheVariants.{NoInterface}
 use Rattle.face_model.specs.declared.result.How.TheVariants as how
 use Rattle.face_model.specs.declared.result.NodeResult.{NodeResult}
-use Rattle.build_theory.specs.Build.{Sound, Failed, Blocked, Checked, Graph, Behind, outcomes, is_sound, of_check, is_need, is_sound_in, first_bad, environment, results}
+use Rattle.build_theory.specs.Build.{Sound, Failed, Blocked, Checked, Graph, Behind, outcomes, is_sound, of_check, is_need, is_sound_in, first_bad, environment, order, results}
 use Rattle.build_theory.specs.Laws.{IsIn, AreDistinct}
-use Rattle.build_theory.proofs.Lists.{both_ways, all_at, all_map, in_shuffled, shuffled_back}
-use Rattle.build_theory.proofs.Files.{distinct_shuffled}
+use Rattle.build_theory.proofs.Lists.{both_ways, all_at}
 use Rattle.build_theory.proofs.Fold.{results_app}
-use Rattle.build_theory.proofs.Whole.{order_is_whole}
 use Rattle.numbered_nodes.proofs.Booleans.{is_other}
-use Rattle.mod_graph.specs.Names.{same_node}
 use Rattle.mod_graph.specs.Edges.{needs_node}
 use Rattle.mod_graph.specs.Graph.{Tree, entries, ids, needs_in, needs_place, view_of, errors_by}
 use Rattle.mod_graph.proofs.Numbering.{element_at}
@@ -32,18 +29,23 @@ use Rattle.unbuilt_forms.specs.Unbuilt.{is_told}
 use Rattle.module_check.specs.Check.{check}
 use Rattle.module_check.specs.Laws.{IsShortContent}
 use Rattle.module_check.proofs.Fitting.{checks_fit}
-use Rattle.plain_build.specs.Plain.{PlainTree, check_settings, plain, imports_of, imported, input_of, graph_errors, unless_none}
+use Rattle.build_plan.specs.Tree.{planning, imports_of, input_of, graph_errors, unless_none, nodes_of, ordered}
+use Rattle.build_plan.specs.Plan.{IsShortNode, IsStanding}
+use Rattle.build_plan.specs.Positions.{import_places}
+use Rattle.plain_build.specs.Plain.{PlainTree, check_settings, plain, imported}
 use Rattle.plain_build.specs.Result.{PlainJudged, IsResult, AreResults, is_checked}
-use Rattle.plain_build.specs.Steps.{first_unsound, import_places}
-use Rattle.plain_build.specs.Kept.{empty_content, checked_how, result_of, HasSound}
-use Rattle.plain_build.specs.Done.{IsShortNode, IsStanding, IsFree, IsContent, AreContents, IsDone, judged_before, judged_next, nodes_of, ordered, soundness}
-use Rattle.plain_build.proofs.Alls.{all_join, all_last}
-use Rattle.plain_build.proofs.Entries.{source_number}
-use Rattle.plain_build.proofs.Env.{contents_count, imported_is, places_within, source_from}
+use Rattle.plain_build.specs.Soundness.{first_unsound}
+use Rattle.plain_build.specs.NodeResults.{empty_content, checked_how, result_of, HasSound}
+use Rattle.plain_build.specs.Done.{IsUnblocked, IsContent, AreContents, IsDone, judged_before, judged_next, soundness}
+use Rattle.build_plan.proofs.Alls.{all_join, all_last}
+use Rattle.build_plan.proofs.Entries.{source_number}
+use Rattle.build_plan.proofs.Ordering.{source_from, ordered_apart, in_sources, is_source}
+use Rattle.plain_build.proofs.Order.{order_same}
+use Rattle.plain_build.proofs.Env.{contents_count, imported_is, places_within}
 use Rattle.plain_build.proofs.Needs.{Stands, none_bad, need_at, first_bad_is, place_node, unsound_within}
-use Rattle.plain_build.proofs.NoErrors as faults
-use Rattle.plain_build.proofs.Spots.{in_at, at_in, node_there, rising_apart}
-use Rattle.plain_build.proofs.Views.{seen_needed}
+use Rattle.build_plan.proofs.NoErrors as faults
+use Rattle.build_plan.proofs.Spots.{in_at, at_in}
+use Rattle.build_plan.proofs.Views.{seen_needed}
 
 abbrev Sources : Type 0
 Sources = List (Node × List ℕ)
@@ -81,18 +83,6 @@ stood t (suc n) h =
     let all : length (judged_before t (suc n)) ≡ suc n = ap length e ∙ count ∙ ap (λ k. k + 1) s.0 ∙ add-one n in
     (all, subst (λ js. Stands js (ordered t)) (sym e) (stands_more (judged_before t n) (ordered t) f.0 (judged_next t f.0 n) s.1 (subst (λ k. slice_get (ordered t) k ≡ Some f.0) (sym s.0) f.1)))
 
--- the order has the sources, no node twice
-pub ordered_apart : (t : PlainTree) → IsStanding t → AreDistinct plain (ordered t)
-unfolding ordered
-ordered_apart t fine = distinct_shuffled plain (order_is_whole plain t) (rising_apart t.sources fine.rising)
-
-pub in_sources : (t : PlainTree) (q : Node × List ℕ) → IsIn q (ordered t) → IsIn q t.sources
-unfolding ordered
-in_sources t q i = in_shuffled q (shuffled_back (order_is_whole plain t)) i
-
-pub is_source : (t : PlainTree) (q : Node × List ℕ) → IsIn q (ordered t) → list_any (λ (p : Node × List ℕ). same_node q.0 p.0) t.sources ≡ true
-is_source t q i = node_there t.sources q (in_sources t q i)
-
 results_more : (unit : List ℕ) (ns : List Node) (rs : List NodeResult) (js : Results) (r : NodeResult) (j : Node × PlainJudged) → AreResults unit ns rs js → IsResult unit ns r j → AreResults unit ns (rs ++ r ∷ []) (js ++ j ∷ [])
 results_more unit ns [] [] r j h k = (k, tt)
 results_more unit ns [] (i ∷ js) r j h k = absurd h
@@ -109,22 +99,19 @@ unless_some : (ds : List Diag) → (ds ≡ [] → ⊥) → unless_none ds ≡ So
 unless_some [] h = absurd (h refl)
 unless_some (d ∷ ds) h = refl
 
+-- the result of a node that has no graph errors, where this is the order
+abbrev behind : (t : PlainTree) → ℕ → Node × List ℕ → Sources → PlainJudged
+behind t n a qs = option_map_or (λ n. record { how = Behind n; outcome = Blocked n }) (first_bad plain t a.0 (outcomes (judged_before t n)) qs)
+    (record { how = Checked NoInterface; outcome = of_check (check (check_settings t.settings) a.0 a.1 (imported t a.0 (environment plain t a.0 (outcomes (judged_before t n)) t.sources) (imports_of t.settings a.0 a.1))) })
+
 -- where a node has graph errors, and where it has none
 step_graph : (t : PlainTree) (n : ℕ) (a : Node × List ℕ) (ds : List Diag) → graph_errors t a.0 ≡ Some ds → judged_next t a n ≡ record { how = Graph; outcome = Failed ds }
-unfolding judged_next ordered
-step_graph t n a ds e =
-    ap (λ o. option_map_or (λ e. record { how = Graph; outcome = Failed e }) o
-    (option_map_or (λ n. record { how = Behind n; outcome = Blocked n }) (first_bad plain t a.0 (outcomes (judged_before t n)) (ordered t))
-    (record { how = Checked NoInterface; outcome = of_check (check (check_settings t.settings) a.0 a.1 (imported t a.0 (environment plain t a.0 (outcomes (judged_before t n)) t.sources) (imports_of t.settings a.0 a.1))) }))) e
+unfolding judged_next
+step_graph t n a ds e = ap (λ o. option_map_or (λ e. record { how = Graph; outcome = Failed e }) o (behind t n a (order plain t))) e
 
-step_free : (t : PlainTree) (n : ℕ) (a : Node × List ℕ) → graph_errors t a.0 ≡ None
-    → judged_next t a n ≡ option_map_or (λ n. record { how = Behind n; outcome = Blocked n }) (first_bad plain t a.0 (outcomes (judged_before t n)) (ordered t))
-    (record { how = Checked NoInterface; outcome = of_check (check (check_settings t.settings) a.0 a.1 (imported t a.0 (environment plain t a.0 (outcomes (judged_before t n)) t.sources) (imports_of t.settings a.0 a.1))) })
-unfolding judged_next ordered
-step_free t n a e =
-    ap (λ o. option_map_or (λ e. record { how = Graph; outcome = Failed e }) o
-    (option_map_or (λ n. record { how = Behind n; outcome = Blocked n }) (first_bad plain t a.0 (outcomes (judged_before t n)) (ordered t))
-    (record { how = Checked NoInterface; outcome = of_check (check (check_settings t.settings) a.0 a.1 (imported t a.0 (environment plain t a.0 (outcomes (judged_before t n)) t.sources) (imports_of t.settings a.0 a.1))) }))) e
+step_free : (t : PlainTree) (n : ℕ) (a : Node × List ℕ) → graph_errors t a.0 ≡ None → judged_next t a n ≡ behind t n a (ordered t)
+unfolding judged_next
+step_free t n a e = ap (λ o. option_map_or (λ e. record { how = Graph; outcome = Failed e }) o (behind t n a (order plain t))) e ∙ ap (behind t n a) (order_same t)
 
 abbrev pub ok_content : Content → Result Content (List Diag)
 ok_content c = Ok c
@@ -150,7 +137,7 @@ module _ (t : PlainTree) (fine : IsStanding t) (n : ℕ) (a : Node × List ℕ) 
   stand : Stands before (ordered t)
   stand = (stood t n (let h = slice_get_within (ordered t) n a here in omega arith)).1
 
-  apart : AreDistinct plain (ordered t)
+  apart : AreDistinct planning (ordered t)
   apart = ordered_apart t fine
 
   short_name : length a.0.module.text < 2 ^ 32
@@ -198,7 +185,7 @@ module _ (t : PlainTree) (fine : IsStanding t) (n : ℕ) (a : Node × List ℕ) 
           ∙ ap (λ (bs : List Bool). place_node (ordered t) (option_map (λ (n : NodeId). n.0) (first_unsound bs needs))) (sym done.sound)
 
       -- a node all of whose needs are sound
-      pub next_free : graph_errors t a.0 ≡ None → first_unsound old.sound.items needs ≡ None → IsFree t a.0 n
+      pub next_free : graph_errors t a.0 ≡ None → first_unsound old.sound.items needs ≡ None → IsUnblocked t a.0 n
       next_free none sound = record { no_errors = none; no_bad = bad_is ∙ ap (λ (o : Option NodeId). place_node (ordered t) (option_map (λ (n : NodeId). n.0) o)) sound }
 
       blocked_by : (p : NodeId) → first_unsound old.sound.items needs ≡ Some p → (o : Option (Node × List ℕ)) → slice_get (ordered t) p.0 ≡ o → first_bad plain t a.0 (outcomes before) (ordered t) ≡ option_map_or (λ (q : Node × List ℕ). Some q.0) o None
@@ -231,7 +218,7 @@ module _ (t : PlainTree) (fine : IsStanding t) (n : ℕ) (a : Node × List ℕ) 
     imports_within =
         subst (λ m. AllByRecursion (λ i. i < m) places) (sym (contents_count old.contents.items before done.contents ∙ many)) (places_within (input_of t) (nodes_of (ordered t)) n (imports_of t.settings a.0 a.1))
 
-    module _ (free : IsFree t a.0 n) where
+    module _ (free : IsUnblocked t a.0 n) where
       sound_needs : (q : Node × List ℕ) → IsIn q (ordered t) → is_need plain t a.0 q.0 ≡ true → is_sound_in plain (outcomes before) q.0 ≡ true
       sound_needs q i need = none_bad t a.0 (outcomes before) (ordered t) free.no_bad q i need
 

@@ -17,7 +17,8 @@ use Rattle.build_theory.specs.Build.{Outcome, Failed, Blocked, Checked, Graph, B
 use Rattle.unbuilt_forms.specs.Unbuilt.{is_told}
 use Rattle.module_check.specs.Check.{check}
 use Rattle.module_check.proofs.Ordered.{checks_are_ordered}
-use Rattle.plain_build.specs.Plain.{PlainTree, check_settings, graph_errors, imported, imports_of, input_of, plain, unless_none}
+use Rattle.build_plan.specs.Tree.{graph_errors, imports_of, input_of, unless_none}
+use Rattle.plain_build.specs.Plain.{PlainTree, check_settings, imported, plain}
 use Rattle.plain_build.specs.Result.{PlainJudged, tree_of}
 use Rattle.plain_build.specs.Ordered.{BuildsAreOrdered, HasOrdered}
 

@@ -1,28 +1,20 @@
 -- What is kept of the nodes that are done.
-use Rattle.std.specs.Prelude.{◌≡◌, ℕ, ◌<◌, ◌≤◌, ◌^◌, Bool, true, List, [], ◌∷◌, length, map, take, None}
+use Rattle.std.specs.Prelude.{◌≡◌, ℕ, ◌<◌, ◌^◌, Bool, List, [], ◌∷◌, length, map, take, None}
 use Rattle.std.specs.List.{AllByRecursion}
 use Rattle.mk_base.specs.declared.name.Node.{Node}
 use Rattle.mk_base.specs.declared.diag.Diag.{Diag}
-use Rattle.build_theory.specs.Build.{Outcome, Sound, outcomes, is_sound, sorted, order, results, step, first_bad}
-use Rattle.mod_graph.specs.declared.graph.Graph.{Graph}
-use Rattle.mod_graph.specs.Names.{less_node}
-use Rattle.mod_graph.specs.Kept.{IsGraph}
+use Rattle.build_theory.specs.Build.{Outcome, Sound, outcomes, is_sound, results, step, first_bad}
 use Rattle.plain_scope.specs.declared.scope.Content.{Content}
 use Rattle.plain_build.specs.declared.build.PlainBuild.{PlainBuild}
 use Rattle.plain_build.specs.declared.done.Done.{Done}
-use Rattle.plain_build.specs.Plain.{PlainTree, plain, input_of, graph_errors}
-use Rattle.plain_build.specs.Result.{PlainJudged, AreResults, tree_of}
+use Rattle.build_plan.specs.Tree as plan
+use Rattle.build_plan.specs.Tree.{graph_errors, nodes_of, ordered}
+use Rattle.plain_build.specs.Plain.{PlainTree, plain}
+use Rattle.plain_build.specs.Result.{PlainJudged, AreResults, settings_in}
 
 -- the tree that is built, with its sources by node
-unfoldable pub sorted_tree : PlainBuild → PlainTree
-sorted_tree input = sorted plain (tree_of input)
-
--- the sources of a tree in the order of its nodes
-unfoldable pub ordered : PlainTree → List (Node × List ℕ)
-ordered t = order plain t
-
-abbrev pub nodes_of : List (Node × List ℕ) → List Node
-nodes_of qs = map (λ (q : Node × List ℕ). q.0) qs
+abbrev pub sorted_tree : PlainBuild → PlainTree
+sorted_tree input = plan.sorted_tree (settings_in input) input.files
 
 -- the results of the first nodes in order, so many of them
 unfoldable pub judged_before : PlainTree → ℕ → List (Node × PlainJudged)
@@ -32,29 +24,8 @@ judged_before t n = results plain t [] [] (take n (ordered t))
 unfoldable pub judged_next : PlainTree → Node × List ℕ → ℕ → PlainJudged
 judged_next t q n = step plain t [] (outcomes (judged_before t n)) q
 
--- each node is less than those behind it
-abbrev pub AreRising : List (Node × List ℕ) → Type 0
-AreRising [] = Unit {0}
-AreRising (q ∷ qs) = AllByRecursion (λ r. less_node q.0 r.0 ≡ true) qs × AreRising qs
-
-abbrev pub IsShortNode : Node × List ℕ → Type 0
-IsShortNode q = length q.0.module.text < 2 ^ 32
-
--- A tree whose sources stand by node, with names of at most 1 MiB.
-pub record IsStanding (t : PlainTree) : Type 0 where
-  pub rising : AreRising t.sources
-  pub unit : length t.settings.unit ≤ 64
-  pub few : length t.sources < 2 ^ 32
-  pub short : AllByRecursion IsShortNode t.sources
-
--- The graph of a standing tree: its nodes stand in the tree's order.
-pub record IsPlanned (t : PlainTree) (g : Graph) : Type 0 where
-  pub standing : IsStanding t
-  pub graph : IsGraph (input_of t) g
-  pub order : g.order ≡ nodes_of (ordered t)
-
 -- A node is checked: it has no diagnostics of the graph stage, and all that it needs is sound.
-pub record IsFree (t : PlainTree) (n : Node) (place : ℕ) : Type 0 where
+pub record IsUnblocked (t : PlainTree) (n : Node) (place : ℕ) : Type 0 where
   pub no_errors : graph_errors t n ≡ None
   pub no_bad : first_bad plain t n (outcomes (judged_before t place)) (ordered t) ≡ None
 

@@ -1,6 +1,6 @@
 pub mod Done
-pub mod Kept
+pub mod NodeResults
 pub mod Plain
 pub mod Result
-pub mod Steps
+pub mod Soundness
 pub mod Ordered

@@ -1,100 +1,39 @@
 -- The part of the language that is built so far, as the theory of builds takes a language.
-use Rattle.std.specs.Prelude.{ℕ, Bool, false, ◌&&◌, ◌||◌, not, nat_eq, nat_lt, List, [], ◌∷◌, ◌++◌, length, map, Some, None, Result, Ok, Err, codes, filter, if◌then◌else◌}
+use Rattle.std.specs.Prelude.{ℕ, List, [], Some, Err}
 use Rattle.std.specs.declared.option.Option.{Option}
 use Rattle.std.specs.Option.{option_to_list}
 use Rattle.std.specs.List.{flat_map}
 use Rattle.std.specs.Map.{lookup}
-use Rattle.mk_base.specs.Paths.{node_of}
-use Rattle.mk_base.specs.Places.{first_place}
 use Rattle.mk_base.specs.declared.name.Node.{Node}
 use Rattle.mk_base.specs.declared.diag.Diag.{Diag}
-use Rattle.mk_base.specs.declared.place.Pos.{Pos}
-use Rattle.mk_io.specs.declared.file.File.{File}
 use Rattle.face_model.specs.declared.result.Reason.{Reason}
 use Rattle.face_model.specs.declared.result.Reason.TheVariants.{NoInterface}
-use Rattle.build_theory.specs.Build.{Tree, Language}
-use Rattle.hs_syntax.specs.declared.header.Header.{Header}
+use Rattle.build_theory.specs.Build.{Language}
 use Rattle.hs_syntax.specs.declared.header.ImportItem.{ImportItem}
-use Rattle.hs_header.specs.Reading.{Fault, Lexeme, Grammar, Unknown, header_of}
-use Rattle.mod_graph.specs.declared.input.HeaderOf.{HeaderOf}
 use Rattle.mod_graph.specs.Names.{same_node, less_node}
-use Rattle.mod_graph.specs.Entries.{diag_at, imports_in}
 use Rattle.mod_graph.specs.Edges.{needs_node}
-use Rattle.mod_graph.specs.Graph.{Input, View, entries, errors_by, view_of}
+use Rattle.mod_graph.specs.Graph.{View, entries, view_of}
 use Rattle.mod_graph.specs.Graph as seen_as
-use Rattle.unbuilt_forms.specs.Unbuilt.{is_told}
+use Rattle.plain_scope.specs.declared.scope.Content.{Content}
 use Rattle.module_check.specs.Check.{check}
 use Rattle.module_check.specs.declared.check.CheckSettings.{CheckSettings}
-use Rattle.plain_scope.specs.declared.scope.Content.{Content}
-
--- what is set for the whole tree: its unit's name, and, where a module's pragmas say nothing, whether Prelude is imported and whether the monomorphism restriction holds
-pub record Settings : Type 0 where
-  pub unit : List ℕ
-  pub prelude : Bool
-  pub restrict : Bool
+use Rattle.build_plan.specs.Tree.{Settings, SourceTree, graph_errors, imports_of, input_of}
 
 -- what of that a check goes by
 abbrev pub check_settings : Settings → CheckSettings
 check_settings g = record { unit = record { text = g.unit }; restrict = g.restrict }
 
 abbrev pub PlainTree : Type 0
-PlainTree = Tree Settings Node (List ℕ)
-
--- Headers.
-
-abbrev pub no_lexeme : Pos → Diag
-no_lexeme at = diag_at at 1 (codes "no lexeme begins here")
-
-abbrev pub no_header : Pos → Diag
-no_header at = diag_at at 3 (codes "this is no module header")
-
-abbrev pub unknown_extension : Pos → List ℕ → Diag
-unknown_extension at name = diag_at at 5 (codes "unknown extension " ++ name)
-
--- the diagnostic of a source that has no header
-abbrev pub told : Result Header Fault → Result Header Diag
-told (Ok h) = Ok h
-told (Err (Lexeme at)) = Err (no_lexeme at)
-told (Err (Grammar at)) = Err (no_header at)
-told (Err (Unknown at name)) = Err (unknown_extension at name)
-
--- a boot file isn't built yet: it counts as one of its module's name that imports nothing
-abbrev pub unread : List ℕ → Header
-unread m = record { name = record { text = m }; at = first_place; exports = None; imports = []; prelude = Some false; restrict = None }
-
--- The header of a node's source. A source of over 1,048,576 bytes isn't read.
-abbrev pub header_at : Node → List ℕ → Result Header Diag
-header_at n s = if n.boot || nat_lt 1048576 (length s) then Ok (unread n.module.text) else told (header_of s)
-
-abbrev pub header_for : Node × List ℕ → HeaderOf
-header_for q = record { node = q.0; size = length q.1; header = header_at q.0 q.1 }
-
--- the graph of a tree's modules is made of their headers; there are no packages
-abbrev pub input_of : PlainTree → Input
-input_of t = record { headers = map header_for t.sources; packages = []; prelude = t.settings.prelude }
-
--- what a module imports, the implicit import of Prelude too
-abbrev pub imports_of : Settings → Node → List ℕ → List ImportItem
-imports_of g n s = imports_in g.prelude (header_at n s)
-
-abbrev pub unless_none : List Diag → Option (List Diag)
-unless_none [] = None
-unless_none (d ∷ ds) = Some (d ∷ ds)
-
--- the diagnostics of the graph stage
-abbrev pub graph_errors : PlainTree → Node → Option (List Diag)
-graph_errors t n = unless_none (filter (is_told n) (errors_by (input_of t) n))
-
--- Checks.
+PlainTree = SourceTree
 
 -- the content of what a node sees of a module
-abbrev pub seen : List (Node × Content) → Option View → List Content
-seen env (Some (seen_as.Tree m)) = option_to_list (lookup (same_node m) env)
-seen env _ = []
+abbrev pub content_seen : List (Node × Content) → Option View → List Content
+content_seen env (Some (seen_as.Tree m)) = option_to_list (lookup (same_node m) env)
+content_seen env _ = []
 
 -- what the imports of a node offer, each module in the node's view of it
 abbrev pub imported : PlainTree → Node → List (Node × Content) → List ImportItem → List Content
-imported t n env ys = flat_map (λ (y : ImportItem). seen env (view_of (input_of t) n y.module.text)) ys
+imported t n env ys = flat_map (λ (y : ImportItem). content_seen env (view_of (input_of t) n y.module.text)) ys
 
 abbrev pub plain : Language Settings Node (List ℕ) Content Content (List Diag) Reason
 plain = record {
@@ -107,13 +46,3 @@ plain = record {
   missing = NoInterface;
   decide = λ t n s k env. Err NoInterface;
 }
-
--- Sources.
-
--- the files that are sources; all others are passed over
-abbrev pub source_at : File → Option Node → List (Node × List ℕ)
-source_at f (Some n) = (n, f.bytes) ∷ []
-source_at f None = []
-
-abbrev pub sources_of : List File → List (Node × List ℕ)
-sources_of files = flat_map (λ (f : File). source_at f (node_of f.name)) files

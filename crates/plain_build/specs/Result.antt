@@ -1,20 +1,21 @@
 -- What a build of the plain language answers, and what it asks.
-use Rattle.std.specs.Prelude.{◌<◌, ◌^◌, ◌≡◌, ℕ, ◌+◌, ◌≤◌, Bool, true, ◌&&◌, ◌||◌, nat_le, nat_eq, List, [], ◌∷◌, length, map, slice_get, Some, None}
+use Rattle.std.specs.Prelude.{◌≡◌, ℕ, ◌+◌, ◌≤◌, Bool, true, ◌&&◌, ◌||◌, nat_le, nat_eq, List, [], ◌∷◌, length, map, slice_get, Some, None}
 use Rattle.std.specs.declared.option.Option.{Option}
-use Rattle.std.specs.List.{list_all, AllByRecursion}
+use Rattle.std.specs.List.{list_all}
 use Rattle.mk_base.specs.declared.name.Node.{Node}
 use Rattle.mk_base.specs.declared.diag.Diag.{Diag}
-use Rattle.mk_io.specs.declared.file.File.{File}
 use Rattle.face_model.specs.declared.result.Reason.{Reason}
 use Rattle.face_model.specs.declared.result.How.{How}
 use Rattle.face_model.specs.declared.result.How.TheVariants as how
 use Rattle.face_model.specs.declared.result.NodeResult.{NodeResult}
 use Rattle.build_theory.specs.Build.{Tree, Language, Judged, Outcome, Sound, Failed, Blocked, incremental}
 use Rattle.build_theory.specs.Build as theory
+use Rattle.build_plan.specs.Tree.{Settings, sources_of}
 use Rattle.plain_scope.specs.declared.scope.Content.{Content}
 use Rattle.plain_face.specs.Interface.{IsInterface}
 use Rattle.plain_build.specs.declared.build.PlainBuild.{PlainBuild}
-use Rattle.plain_build.specs.Plain.{PlainTree, plain, sources_of}
+use Rattle.plain_build.specs.Plain.{PlainTree, plain}
+pub use Rattle.build_plan.specs.Files.{AreDistinct, AreShort}
 
 abbrev pub is_small_letter : ℕ → Bool
 is_small_letter b = nat_le 97 b && nat_le b 122
@@ -27,17 +28,12 @@ abbrev pub IsUnitName : List ℕ → Type 0
 IsUnitName [] = ⊥
 IsUnitName (b ∷ bs) = (is_small_letter b ≡ true) × (list_all is_unit_byte bs ≡ true) × (length (b ∷ bs) ≤ 64)
 
--- no two files have one name
-abbrev pub AreDistinct : List File → Type 0
-AreDistinct [] = Unit {0}
-AreDistinct (f ∷ fs) = AllByRecursion (λ (g : File). f.name ≡ g.name → ⊥) fs × AreDistinct fs
-
--- the names of the files have at most 1,048,576 bytes
-abbrev pub AreShort : List File → Type 0
-AreShort files = AllByRecursion (λ (f : File). length f.name < 2 ^ 32) files
+-- what is set for the tree
+abbrev pub settings_in : PlainBuild → Settings
+settings_in input = record { unit = input.unit.text; prelude = input.prelude; restrict = input.restrict }
 
 abbrev pub tree_of : PlainBuild → PlainTree
-tree_of input = record { settings = record { unit = input.unit.text; prelude = input.prelude; restrict = input.restrict }; sources = sources_of input.files }
+tree_of input = record { settings = settings_in input; sources = sources_of input.files }
 
 abbrev pub PlainJudged : Type 0
 PlainJudged = Judged Node Content (List Diag) Reason

@@ -1,28 +1,23 @@
 //! The build, node by node in order.
-ghost use Rattle.std.specs.Prelude.{◌≡◌, ◌+◌, ◌≤◌, ◌<◌, ◌^◌, ℕ, true, List as Row, IfOk, OnOk, length, map, codes};
+ghost use Rattle.std.specs.Prelude.{◌≡◌, ◌+◌, ◌≤◌, ◌<◌, ◌^◌, ℕ, true, List as Row, IfOk, OnOk, length, codes};
 ghost use Rattle.mk_base.specs.declared.name.Node.{Node};
 ghost use Rattle.build_theory.specs.Laws.{AreDistinct as AreApart, IsExact, IsIn, IsOrdered};
 ghost use Rattle.build_theory.specs.Machine.{HasNoCycleBefore, HasPlace};
 ghost use Rattle.plain_build.specs.Ordered.{BuildsAreOrdered};
-ghost use Rattle.mod_graph.specs.Kept.{IsGraph};
-ghost use Rattle.plain_build.specs.Plain.{PlainTree, header_for, input_of, plain};
-ghost use Rattle.plain_build.specs.Done.{IsStanding, sorted_tree};
-ghost use Rattle.plain_build.specs.Steps.{pairs};
+ghost use Rattle.build_plan.specs.Plan.{IsPlan};
+ghost use Rattle.plain_build.specs.Plain.{PlainTree, plain};
+ghost use Rattle.plain_build.specs.Done.{sorted_tree};
 ghost use Rattle.plain_build.specs.Result.{AreDistinct, AreResults, AreShort, IsUnitName, built, checks_in, nodes_in};
 
 use crate::done::Done;
-use crate::headers::headers_of;
-use crate::node::{Plan, build_node};
-use crate::places::{place_of, places_of};
-use crate::sources::{Source, list_sources, sort_sources};
+use crate::node::{Building, build_node};
+use build_plan::plan::{Plan, plan_of};
 use face_model::result::{BuildResult, NodeResult};
 use mk_base::list::List;
 use mk_base::memory::NoMemory;
 use mk_base::name::Unit;
 use mk_base::steps::{Ledger, Steps};
 use mk_io::file::File;
-use mod_graph::graph::Graph;
-use mod_graph::input::HeaderOf;
 use module_check::check::CheckSettings;
 use std::alloc::Global;
 
@@ -52,18 +47,8 @@ pub fn build_plain<L: Ledger>(
     ensures checks { OnOk result (steps.new ≡ steps.old + checks_in (built input.now)) }
     ensures later { steps.old ≤ steps.new }
 {
-    let mut sources = list_sources(alloc, input.files.as_slice())?;
-    sort_sources(sources.as_mut_slice());
-    let headers = headers_of(alloc, sources.as_slice())?;
-    let graph = Graph::build(alloc, &headers, &List::new(alloc), input.prelude)?;
-    let nodes = build_nodes(
-        alloc,
-        input,
-        sources.as_slice(),
-        headers.as_slice(),
-        &graph,
-        steps,
-    )?;
+    let plan = plan_of(alloc, input.files.as_slice(), input.prelude)?;
+    let nodes = build_nodes(alloc, input, &plan, steps)?;
     Ok(BuildResult { nodes })
 }
 
@@ -71,43 +56,32 @@ pub fn build_plain<L: Ledger>(
 fn build_nodes<L: Ledger>(
     alloc: Global,
     input: &PlainBuild,
-    sources: &[Source<'_>],
-    headers: &[HeaderOf],
-    graph: &Graph,
+    plan: &Plan<'_>,
     steps: &mut Steps<L>,
 ) -> Result<List<NodeResult>, NoMemory>
-    requires standing { IsStanding (sorted_tree input.now) }
-    requires graph { IsGraph (input_of (sorted_tree input.now)) graph.now }
-    requires sources { pairs sources.now ≡ (sorted_tree input.now).sources }
-    requires headers { headers.now ≡ map header_for (sorted_tree input.now).sources }
+    requires plan { IsPlan (sorted_tree input.now) plan.now }
     ensures build { IfOk result (λ rs. AreResults input.now.unit.text (nodes_in (built input.now)) rs (built input.now)) }
     ensures checks { OnOk result (steps.new ≡ steps.old + checks_in (built input.now)) }
     ensures later { steps.old ≤ steps.new }
 {
-    let places = places_of(alloc, sources)?;
     let settings = CheckSettings {
         unit: Unit {
             text: input.unit.text.copy(alloc)?,
         },
         restrict: input.restrict,
     };
-    let plan = Plan {
+    let building = Building {
         input,
         settings,
-        graph,
+        plan,
     };
     let mut done = Done {
         results: List::new(alloc),
         contents: Vec::new(alloc),
         sound: Vec::new(alloc),
     };
-    for (place, node) in graph.order().as_slice().iter().enumerate() {
-        let Some(at) = place_of(&places, node.boot, &node.module.text) else {
-            unreachable!()
-        };
-        let source = &sources[at];
-        let header = &headers[at];
-        build_node(alloc, &plan, place as u32, source, header, &mut done, steps)?;
+    for (place, source) in plan.nodes.as_slice().iter().enumerate() {
+        build_node(alloc, &building, place as u32, source, &mut done, steps)?;
     }
     Ok(done.results)
 }

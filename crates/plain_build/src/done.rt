@@ -2,7 +2,7 @@
 ghost use Rattle.std.specs.Prelude.{◌≡◌, ◌++◌, ◌∷◌, [], OnOk, Some, None, true, false};
 ghost use Rattle.plain_scope.specs.Offered.{Fits, IsSound};
 ghost use Rattle.plain_face.specs.Interface.{IsInterface};
-ghost use Rattle.plain_build.specs.Kept.{empty_content, result_of, checked_how, HasSound};
+ghost use Rattle.plain_build.specs.NodeResults.{empty_content, result_of, checked_how, HasSound};
 
 use bytes::Bytes;
 use face_model::result::{How, NodeResult, Reason};

@@ -3,7 +3,4 @@
 
 pub mod build;
 mod done;
-mod headers;
 mod node;
-mod places;
-mod sources;

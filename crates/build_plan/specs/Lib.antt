@@ -1,0 +1,4 @@
+pub mod Files
+pub mod Plan
+pub mod Positions
+pub mod Tree

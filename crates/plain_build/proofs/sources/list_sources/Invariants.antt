@@ -1,7 +1,0 @@
-use Rattle.std.proofs.Common.{◌≡◌, ◌++◌, drop}
-use Rattle.plain_build.specs.Plain.{sources_of}
-use Rattle.plain_build.specs.Steps.{pairs}
-use Rattle.plain_build.proofs.sources.list_sources.Given as goal
-
-abbrev pub invariant-loop-file : goal.invariant-loop-file
-invariant-loop-file l = pairs l.sources.items ++ sources_of (drop l.file-index l.files) ≡ sources_of l.files
