@@ -6,7 +6,6 @@ pub mod Membership
 pub mod Keys
 pub mod Queueing
 pub mod Listing
-pub mod OrderLaws
 pub mod Grouping
 pub mod OneList
 pub mod Stepping

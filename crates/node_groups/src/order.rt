@@ -1,6 +1,6 @@
-//! The order of the nodes.
+//! The order of the nodes of a graph without a cycle: targets first, and the least where several may come.
 
-ghost use Rattle.std.specs.Prelude.{◌≡◌, ◌<◌, ◌↔◌, ℕ, List, [], false, IfOk, get_or, length};
+ghost use Rattle.std.specs.Prelude.{◌≡◌, ◌<◌, ◌↔◌, ℕ, [], false, IfOk, get_or, length};
 ghost use Rattle.std.specs.List.{All, Contains};
 ghost use Rattle.numbered_nodes.specs.Reach.{Reach};
 ghost use Rattle.numbered_nodes.specs.Edges.{lists, HasEdge, InRange};
@@ -94,8 +94,3 @@ pub fn order_of(alloc: Global, graph: &[Vec<usize>]) -> Result<Vec<usize>, Alloc
         &mut ready,
     )
 }
-
-/// There is one order alone, and no node stands in it twice.
-pub fn order_is_one()
-    ensures one { (g : List (List ℕ)) (n : ℕ) (os ps : List ℕ) → IsOrder (HasEdge g) n os → IsOrder (HasEdge g) n ps → os ≡ ps }
-{}
