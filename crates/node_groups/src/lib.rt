@@ -4,6 +4,7 @@
 
 mod collect;
 mod components;
+mod finish;
 pub mod loops;
 mod members;
 mod order;

@@ -2,7 +2,7 @@
 #![tactic(auto)]
 
 pub mod edges;
-pub mod finish;
+mod finish;
 pub mod loops;
 pub mod needs;
 pub mod order;
