@@ -1,0 +1,3 @@
+pub mod Depends
+pub mod Meets
+pub mod Numbers

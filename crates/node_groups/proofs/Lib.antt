@@ -1,0 +1,11 @@
+pub mod Searching
+pub mod Pushed
+pub mod Naming
+pub mod Least
+pub mod Membership
+pub mod Keys
+pub mod Queueing
+pub mod Listing
+pub mod Grouping
+pub mod OneList
+pub mod Stepping

@@ -1,0 +1,27 @@
+use Rattle.std.proofs.Common.{◌≡◌, ◌<◌, ◌++◌, ◌∷◌, [], ℕ, List, Vec, get_or, set, length, arith, rules, sym, ap, ◌∙◌}
+use Rattle.std.specs.Global.{Global}
+use Rattle.std.proofs.lemmas.List.{get_or-map, map-set, length-map}
+use Rattle.numbered_nodes.specs.Edges.{lists}
+use Rattle.node_groups.proofs.Pushed.{sources_next, sources_end}
+use Rattle.node_groups.proofs.turned.add_source.Goals as goal
+
+pub loop-target-preserved : goal.loop-target-preserved
+loop-target-preserved c =
+    let rows : List (Vec ℕ Global) = c.loop-target.rows in
+    let targets = c.args.targets.now in
+    let i : ℕ = c.loop-target.target-index in
+    let m : ℕ = get_or targets i 0 in
+    let small = c.requires.range i 0 c.loop-target-test.true in
+    let len = c.loop-target.invariant.len in
+    let lt : m < length rows = omega arith in
+    let items : Vec ℕ Global → List ℕ = λ v. v.items in
+    let row : c.push.new.self.items ≡ get_or (lists rows) m [] ++ c.args.node ∷ [] =
+    c.in_ok-push.ensures.items ∙ ap (λ r. r ++ c.args.node ∷ []) (sym (get_or-map items rows m c.index-rows-target.result [] lt)) in
+    record {
+      len = search rules;
+      edges = sources_next (lists c.args.rows.now) (lists rows) _ targets c.args.node i c.loop-target-test.true (omega (arith, length-map rows items))
+          (map-set items rows m c.push.new.self ∙ ap (set (lists rows) m) row) c.loop-target.invariant.edges;
+    }
+
+pub returns-clause-edges : goal.returns-clause-edges
+returns-clause-edges c = sources_end (lists c.args.rows.now) (lists c.loop-target.rows) c.args.targets.now c.args.node c.loop-target.target-index (omega arith) c.loop-target.invariant.edges
