@@ -16,3 +16,4 @@ pub mod Nodes
 pub mod Seen
 pub mod Chained
 pub mod Planning
+pub mod Told

@@ -62,6 +62,7 @@ fn unread(alloc: Global, name: &ModName) -> Result<Header, NoMemory>
 }
 
 /// The header of a source, or the diagnostic that it has in place of one.
+#[tactic(auto, using(crate::proofs::Told::unknown_told))]
 fn told(alloc: Global, source: &[u8]) -> Result<Result<Header, Diag>, NoMemory>
     requires { length source.now ≤ 1048576 }
     ensures { IfOk result (λ r. r ≡ spec.told (header_of source.now)) }

@@ -16,8 +16,12 @@ use Rattle.hs_lex.specs.Classes.{class_of, in_part, is_character}
 use Rattle.hs_lex.specs.Reading.{AllIn}
 use Rattle.hs_lex.specs.Lexemes.{BeginsWith, IsName, IsPlain, IsTail, IsLargeName}
 use Rattle.hs_lex.proofs.Reached.{some_bytes}
-use Rattle.hs_header.specs.Names.{onto, between_dots, dotted, is_large, first_is_large, begins_large, qualifier_of, name_of, name_ref, AreConids, IsDotted, NamesAreParted}
-use Rattle.hs_header.proofs.Names.{some_piece, whole, qualifier_end, name_end}
+use Rattle.hs_lex.specs.Classes.{of_char_class}
+use Rattle.mk_base.specs.declared.char_class.CharClass.{CharClass}
+use Rattle.mk_base.specs.declared.char_class.CharClass.TheVariants as char
+use Rattle.hs_syntax.specs.Names.{onto, between_dots, dotted, in_large, is_large, first_is_large, begins_large, qualifier_of, name_of, name_ref}
+use Rattle.hs_syntax.proofs.Names.{some_piece, whole, qualifier_end, name_end}
+use Rattle.hs_header.specs.Names.{AreConids, IsDotted, NamesAreParted}
 use Rattle.hs_header.proofs.Words.{all_characters}
 
 -- bytes without a dot
@@ -120,8 +124,47 @@ character_scalar c h = grind (arith, nat_tests)
 class_scalar : (c : ℕ) → (class_of c ≡ class.Other → ⊥) → IsScalar c
 class_scalar c h = ⊎_elim (λ y. character_scalar c y) (λ n. absurd (h (not_character c n))) (cases_Bool (is_character c))
 
-first_large : (c : ℕ) (r : List ℕ) (k : Class) → class_of c ≡ k → (k ≡ class.Other → ⊥) → begins_large (encode_utf8 c ++ r) ≡ is_large k
-first_large c r k e h = ap first_is_large (reads_first c r (class_scalar c (λ x. h (sym e ∙ x))) (some_bytes c)) ∙ ap is_large e
+-- the large characters are those of the lexer
+abbrev is_large_class : Class → Bool
+is_large_class class.Large = true
+is_large_class _ = false
+
+large_kind : (k : CharClass) → in_large k ≡ is_large_class (of_char_class k)
+large_kind char.Small = refl
+large_kind char.Large = refl
+large_kind char.Digit = refl
+large_kind char.Symbol = refl
+large_kind char.Special = refl
+large_kind char.White = refl
+large_kind char.Other = refl
+
+quote_is_small : is_large 34 ≡ false
+unfolding is_large class_of_char
+quote_is_small = refl
+
+tick_is_small : is_large 39 ≡ false
+unfolding is_large class_of_char
+tick_is_small = refl
+
+large_character : (k : CharClass) (b : Bool) → cond b (in_large k) false ≡ is_large_class (cond b (of_char_class k) class.Other)
+large_character k true = large_kind k
+large_character k false = refl
+
+large_tick : (c : ℕ) (b : Bool) → nat_eq c 39 ≡ b → is_large c ≡ is_large_class (cond b class.Tick (cond (is_character c) (of_char_class (class_of_char c)) class.Other))
+unfolding is_large
+large_tick c true e = ap is_large (eqb-true c 39 e) ∙ tick_is_small
+large_tick c false e = large_character (class_of_char c) (is_character c)
+
+large_quote : (c : ℕ) (b : Bool) → nat_eq c 34 ≡ b → is_large c ≡ is_large_class (cond b class.Quote (cond (nat_eq c 39) class.Tick (cond (is_character c) (of_char_class (class_of_char c)) class.Other)))
+large_quote c true e = ap is_large (eqb-true c 34 e) ∙ quote_is_small
+large_quote c false e = large_tick c (nat_eq c 39) refl
+
+large_same : (c : ℕ) → is_large c ≡ is_large_class (class_of c)
+unfolding class_of
+large_same c = large_quote c (nat_eq c 34) refl
+
+first_large : (c : ℕ) (r : List ℕ) (k : Class) → class_of c ≡ k → (k ≡ class.Other → ⊥) → begins_large (encode_utf8 c ++ r) ≡ is_large_class k
+first_large c r k e h = ap first_is_large (reads_first c r (class_scalar c (λ x. h (sym e ∙ x))) (some_bytes c)) ∙ large_same c ∙ ap is_large_class e
 
 large_piece : (q : List ℕ) → BeginsWith class.Large q → begins_large (encode_utf8_all q) ≡ true
 large_piece [] h = absurd h
@@ -153,7 +196,7 @@ small_end n h =
 nothing_large : begins_large [] ≡ false
 nothing_large = ap first_is_large none
 
-by_class : (c : ℕ) (n : List ℕ) (k : Class) → class_of c ≡ k → (k ≡ class.Other → ⊥) → is_large k ≡ false → (p : List ℕ) (ps : List (List ℕ)) → between_dots (encode_utf8_all (c ∷ n)) ≡ p ∷ ps → begins_large p ≡ false
+by_class : (c : ℕ) (n : List ℕ) (k : Class) → class_of c ≡ k → (k ≡ class.Other → ⊥) → is_large_class k ≡ false → (p : List ℕ) (ps : List (List ℕ)) → between_dots (encode_utf8_all (c ∷ n)) ≡ p ∷ ps → begins_large p ≡ false
 unfolding between_dots
 by_class c n k e o l p ps f = ⊎_elim
     (λ y.

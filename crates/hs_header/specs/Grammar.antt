@@ -1,6 +1,10 @@
--- The grammar of headers (Haskell 2010 Report, sections 5.1 to 5.3): what is written, token for token, and the header that it is.
-use Rattle.std.specs.Prelude.{◌≡◌, ◌↔◌, ℕ, suc, ◌<◌, Bool, true, false, List, [], ◌∷◌, ◌++◌, take, length, Some, None}
+-- The grammar of headers (Haskell 2010 Report, sections 5.1 to 5.3): by a tree one text leads to another where the tokens
+-- between them are the tree's.
+use Rattle.std.specs.Prelude.{◌≡◌, ℕ, Bool, true, false, ◌&&◌, List, [], ◌∷◌, ◌++◌, Some, None, codes}
 use Rattle.std.specs.declared.option.Option.{Option}
+use Rattle.mk_base.specs.declared.place.Pos.{Pos}
+use Rattle.mk_base.specs.Places.{first_place}
+use Rattle.mk_base.specs.Texts.{same_text}
 use Rattle.hs_syntax.specs.declared.name_ref.NameRef.{NameRef}
 use Rattle.hs_syntax.specs.declared.header.Header.{Header}
 use Rattle.hs_syntax.specs.declared.header.ExportItem.{ExportItem}
@@ -14,338 +18,187 @@ use Rattle.hs_syntax.specs.declared.header.SubTree.TheVariants as sub
 use Rattle.hs_syntax.specs.declared.header.Subs.{Subs}
 use Rattle.hs_syntax.specs.declared.header.Subs.TheVariants as subs
 use Rattle.hs_syntax.specs.declared.token.Token.{Token}
-use Rattle.hs_header.specs.declared.terminal.VarWord.{VarWord}
-use Rattle.hs_header.specs.declared.terminal.VarWord.TheVariants.{As, Qualified, Hiding}
-use Rattle.hs_header.specs.declared.terminal.Terminal.{Terminal}
-use Rattle.hs_header.specs.declared.terminal.Terminal.TheVariants.{Open, Close, Next, OpenParen, CloseParen, Comma, Dots, Module, Where, Import, Source, Var, QualifiedVar, VarOperator, QualifiedVarOperator, Con, QualifiedCon, ConOperator}
-use Rattle.hs_header.specs.declared.state.State.{State}
-use Rattle.hs_header.specs.declared.state.Turn.{Turn}
-use Rattle.hs_header.specs.declared.state.Turn.TheVariants.{On, Whole, Leaves}
-use Rattle.hs_header.specs.Names.{name_ref, module_ref}
-use Rattle.hs_header.specs.Terminals.{terminal_of}
-use Rattle.hs_header.specs.Machine.{start, step, ended, main_export, main_header}
+use Rattle.hs_syntax.specs.declared.sign.Sign.{Sign}
+use Rattle.hs_syntax.specs.declared.sign.Sign.TheVariants.{Var, QualifiedVar, Con, QualifiedCon, Minus, Bang, Star, VarSym, QualifiedVarSym, ConSym, Pragma, OpenBrace, CloseBrace, Semicolon, OpenParen, CloseParen, Comma, Import, Module, Where, Dots}
+use Rattle.hs_syntax.specs.Signs.{sign_of}
+use Rattle.hs_syntax.specs.Names.{name_ref, module_ref}
 
--- What is written: each token of it, with what that token is.
+-- The sorts of names.
 
--- a token that is this terminal
-abbrev pub Leaf : Terminal → Type 0
-Leaf d = (t : Token) × (terminal_of t ≡ d)
+abbrev pub is_qvarid : Sign → Bool
+is_qvarid Var = true
+is_qvarid QualifiedVar = true
+is_qvarid _ = false
 
--- an unqualified variable, also one of the words that mean more at other places
-pub data VarLeaf : Type 0 where
-  Variable : (w : VarWord) → Leaf (Var w) → VarLeaf
+abbrev pub is_qconid : Sign → Bool
+is_qconid Con = true
+is_qconid QualifiedCon = true
+is_qconid _ = false
 
--- a name that may be qualified: a variable, an operator, or a type, class or module
-pub data ExportVar : Type 0 where
-  PlainVar : VarLeaf → ExportVar
-  DottedVar : Leaf QualifiedVar → ExportVar
+abbrev pub is_varsym : Sign → Bool
+is_varsym Minus = true
+is_varsym Bang = true
+is_varsym Star = true
+is_varsym VarSym = true
+is_varsym _ = false
 
-pub data ExportOp : Type 0 where
-  PlainOp : Leaf VarOperator → ExportOp
-  DottedOp : Leaf QualifiedVarOperator → ExportOp
+abbrev pub is_qvarsym : Sign → Bool
+is_qvarsym QualifiedVarSym = true
+is_qvarsym s = is_varsym s
 
-pub data ConLeaf : Type 0 where
-  PlainCon : Leaf Con → ConLeaf
-  DottedCon : Leaf QualifiedCon → ConLeaf
+abbrev pub is_var : Sign → Bool
+is_var Var = true
+is_var _ = false
+
+-- `as`, `qualified` and `hiding` are variables that mean more at some places
+abbrev pub is_word : List ℕ → Token → Bool
+is_word word t = is_var (sign_of t) && same_text t.text word
+
+abbrev pub is_as : Token → Bool
+is_as t = is_word (codes "as") t
+
+abbrev pub is_qualified : Token → Bool
+is_qualified t = is_word (codes "qualified") t
+
+abbrev pub is_hiding : Token → Bool
+is_hiding t = is_word (codes "hiding") t
+
+-- What is told of a type or class.
 
 -- sub = var | con
-pub data Sub : Type 0 where
-  SubVar : VarLeaf → Sub
-  SubCon : Leaf Con → Sub
-  SubVarOp : Leaf OpenParen → Leaf VarOperator → Leaf CloseParen → Sub
-  SubConOp : Leaf OpenParen → Leaf ConOperator → Leaf CloseParen → Sub
+pub data IsSub : List Token → List Token → SubTree → Type 0 where
+  VarSub : {a : List Token} {t : Token} → sign_of t ≡ Var → IsSub (t ∷ a) a (sub.Var t.at (name_ref t))
+  ConSub : {a : List Token} {t : Token} → sign_of t ≡ Con → IsSub (t ∷ a) a (sub.Con t.at (name_ref t))
+  VarSymSub : {a : List Token} {o t c : Token} → sign_of o ≡ OpenParen → is_varsym (sign_of t) ≡ true → sign_of c ≡ CloseParen → IsSub (o ∷ t ∷ c ∷ a) a (sub.Var o.at (name_ref t))
+  ConSymSub : {a : List Token} {o t c : Token} → sign_of o ≡ OpenParen → sign_of t ≡ ConSym → sign_of c ≡ CloseParen → IsSub (o ∷ t ∷ c ∷ a) a (sub.Con o.at (name_ref t))
 
 -- {, sub} )
-pub data MoreSubs : Type 0 where
-  SubsEnd : Leaf CloseParen → MoreSubs
-  SubsMore : Leaf Comma → Sub → MoreSubs → MoreSubs
+pub data IsMoreSubs : List Token → List Token → List SubTree → Type 0 where
+  LastSub : {a : List Token} {c : Token} → sign_of c ≡ CloseParen → IsMoreSubs (c ∷ a) a []
+  NextSub : {a b c : List Token} {m : Token} {x : SubTree} {xs : List SubTree} → sign_of m ≡ Comma → IsSub a b x → IsMoreSubs b c xs → IsMoreSubs (m ∷ a) c (x ∷ xs)
+
+-- .. ) | [sub {, sub}] )
+pub data IsSubs : List Token → List Token → Subs → Type 0 where
+  AllSubs : {a : List Token} {d c : Token} → sign_of d ≡ Dots → sign_of c ≡ CloseParen → IsSubs (d ∷ c ∷ a) a subs.All
+  NoSubs : {a : List Token} {c : Token} → sign_of c ≡ CloseParen → IsSubs (c ∷ a) a (subs.Listed [])
+  SomeSubs : {a b c : List Token} {x : SubTree} {xs : List SubTree} → IsSub a b x → IsMoreSubs b c xs → IsSubs a c (subs.Listed (x ∷ xs))
 
 -- [( .. ) | ( [sub {, sub}] )]
-pub data Told : Type 0 where
-  Untold : Told
-  ToldAll : Leaf OpenParen → Leaf Dots → Leaf CloseParen → Told
-  ToldNone : Leaf OpenParen → Leaf CloseParen → Told
-  ToldSome : Leaf OpenParen → Sub → MoreSubs → Told
+pub data IsTold : List Token → List Token → Option Subs → Type 0 where
+  NothingTold : {a : List Token} → IsTold a a None
+  SubsTold : {a b : List Token} {o : Token} {x : Subs} → sign_of o ≡ OpenParen → IsSubs a b x → IsTold (o ∷ a) b (Some x)
+
+-- Lists in which a last comma is allowed.
 
 -- {, x} [,] )
-pub data More (X : Type 0) : Type 0 where
-  ListEnd : Leaf CloseParen → More X
-  CommaEnd : Leaf Comma → Leaf CloseParen → More X
-  ListMore : Leaf Comma → X → More X → More X
+pub data IsMore (X : Type 0) (IsOne : List Token → List Token → X → Type 0) : List Token → List Token → List X → Type 0 where
+  LastOne : {a : List Token} {c : Token} → sign_of c ≡ CloseParen → IsMore X IsOne (c ∷ a) a []
+  LastComma : {a : List Token} {m c : Token} → sign_of m ≡ Comma → sign_of c ≡ CloseParen → IsMore X IsOne (m ∷ c ∷ a) a []
+  NextOne : {a b c : List Token} {m : Token} {x : X} {xs : List X} → sign_of m ≡ Comma → IsOne a b x → IsMore X IsOne b c xs → IsMore X IsOne (m ∷ a) c (x ∷ xs)
 
 -- [x {, x}] [,] )
-pub data Listing (X : Type 0) : Type 0 where
-  Empty : Leaf CloseParen → Listing X
-  Lone : Leaf Comma → Leaf CloseParen → Listing X
-  Items : X → More X → Listing X
+pub data IsListing (X : Type 0) (IsOne : List Token → List Token → X → Type 0) : List Token → List Token → List X → Type 0 where
+  EmptyListing : {a : List Token} {c : Token} → sign_of c ≡ CloseParen → IsListing X IsOne (c ∷ a) a []
+  LoneComma : {a : List Token} {m c : Token} → sign_of m ≡ Comma → sign_of c ≡ CloseParen → IsListing X IsOne (m ∷ c ∷ a) a []
+  SomeListing : {a b c : List Token} {x : X} {xs : List X} → IsOne a b x → IsMore X IsOne b c xs → IsListing X IsOne a c (x ∷ xs)
 
--- export = qvar | qtycon [..] | module modid
-pub data Export : Type 0 where
-  OfVar : ExportVar → Export
-  OfOp : Leaf OpenParen → ExportOp → Leaf CloseParen → Export
-  OfType : ConLeaf → Told → Export
-  OfModule : Leaf Module → ConLeaf → Export
+-- Exports.
 
--- iitem = var | tycon [..]
-pub data Item : Type 0 where
-  ItemVar : VarLeaf → Item
-  ItemOp : Leaf OpenParen → Leaf VarOperator → Leaf CloseParen → Item
-  ItemType : Leaf Con → Told → Item
-
--- [[hiding] ( .. )]
-pub data Lists : Type 0 where
-  Unlisted : Lists
-  Meant : Leaf OpenParen → Listing Item → Lists
-  Hidden : Leaf (Var Hiding) → Leaf OpenParen → Listing Item → Lists
-
--- [as modid]
-pub data Alias : Type 0 where
-  NoAlias : Alias
-  Called : Leaf (Var As) → ConLeaf → Alias
-
--- [SOURCE] [qualified]
-pub data Flags : Type 0 where
-  NoFlag : Flags
-  Sourced : Leaf Source → Flags
-  Dotted : Leaf (Var Qualified) → Flags
-  BothFlags : Leaf Source → Leaf (Var Qualified) → Flags
-
--- import = import [SOURCE] [qualified] modid [as modid] [[hiding] ( .. )]
-pub data ImportLine : Type 0 where
-  ImportOf : Leaf Import → Flags → ConLeaf → Alias → Lists → ImportLine
-
--- the imports of a block, with semicolons between them, before them and behind them
-pub data Block : Type 0 where
-  NoMore : Block
-  Gap : Leaf Next → Block → Block
-  Last : ImportLine → Block
-  Then : ImportLine → Leaf Next → Block → Block
+-- export = qvar | qtycon [( .. ) | ( [sub {, sub}] )] | module modid
+pub data IsExport : List Token → List Token → ExportItem → Type 0 where
+  VarExport : {a : List Token} {t : Token} → is_qvarid (sign_of t) ≡ true → IsExport (t ∷ a) a (export.Var t.at (name_ref t))
+  SymExport : {a : List Token} {o t c : Token} → sign_of o ≡ OpenParen → is_qvarsym (sign_of t) ≡ true → sign_of c ≡ CloseParen → IsExport (o ∷ t ∷ c ∷ a) a (export.Var o.at (name_ref t))
+  TypeExport : {a b : List Token} {t : Token} {x : Option Subs} → is_qconid (sign_of t) ≡ true → IsTold a b x → IsExport (t ∷ a) b (export.Type t.at (name_ref t) x)
+  ModuleExport : {a : List Token} {m t : Token} → sign_of m ≡ Module → is_qconid (sign_of t) ≡ true → IsExport (m ∷ t ∷ a) a (export.Module m.at (module_ref t))
 
 -- [exports]
-pub data Exports : Type 0 where
-  NoExports : Exports
-  Listed : Leaf OpenParen → Listing Export → Exports
+pub data IsExports : List Token → List Token → Option (List ExportItem) → Type 0 where
+  NoExports : {a : List Token} → IsExports a a None
+  SomeExports : {a b : List Token} {o : Token} {xs : List ExportItem} → sign_of o ≡ OpenParen → IsListing ExportItem IsExport a b xs → IsExports (o ∷ a) b (Some xs)
 
--- [module modid [exports] where] and the opening brace
-pub data Front : Type 0 where
-  NoLine : (put : Bool) → Leaf (Open put) → Front
-  Line : Leaf Module → ConLeaf → Exports → Leaf Where → (put : Bool) → Leaf (Open put) → Front
+-- Imports.
 
--- The tokens of what is written, with those that follow it.
+-- iitem = var | tycon [( .. ) | ( [sub {, sub}] )]
+pub data IsItem : List Token → List Token → IitemTree → Type 0 where
+  VarItem : {a : List Token} {t : Token} → sign_of t ≡ Var → IsItem (t ∷ a) a (iitem.Var t.at (name_ref t))
+  SymItem : {a : List Token} {o t c : Token} → sign_of o ≡ OpenParen → is_varsym (sign_of t) ≡ true → sign_of c ≡ CloseParen → IsItem (o ∷ t ∷ c ∷ a) a (iitem.Var o.at (name_ref t))
+  TypeItem : {a b : List Token} {t : Token} {x : Option Subs} → sign_of t ≡ Con → IsTold a b x → IsItem (t ∷ a) b (iitem.Type t.at (name_ref t) x)
 
-abbrev pub var_token : VarLeaf → Token
-var_token (Variable w t) = t.0
+abbrev pub listed : Bool → List IitemTree → ImportList
+listed hides xs = record { hiding = hides; items = xs }
 
-abbrev pub export_var_token : ExportVar → Token
-export_var_token (PlainVar v) = var_token v
-export_var_token (DottedVar t) = t.0
+-- [[hiding] ( [iitem {, iitem}] [,] )]
+pub data IsList : List Token → List Token → Option ImportList → Type 0 where
+  NoList : {a : List Token} → IsList a a None
+  MeantList : {a b : List Token} {o : Token} {xs : List IitemTree} → sign_of o ≡ OpenParen → IsListing IitemTree IsItem a b xs → IsList (o ∷ a) b (Some (listed false xs))
+  HidingList : {a b : List Token} {h o : Token} {xs : List IitemTree} → is_hiding h ≡ true → sign_of o ≡ OpenParen → IsListing IitemTree IsItem a b xs → IsList (h ∷ o ∷ a) b (Some (listed true xs))
 
-abbrev pub export_op_token : ExportOp → Token
-export_op_token (PlainOp t) = t.0
-export_op_token (DottedOp t) = t.0
+-- [as modid]
+pub data IsAlias : List Token → List Token → Option NameRef → Type 0 where
+  NoAlias : {a : List Token} → IsAlias a a None
+  Alias : {a : List Token} {w t : Token} → is_as w ≡ true → is_qconid (sign_of t) ≡ true → IsAlias (w ∷ t ∷ a) a (Some (module_ref t))
 
-abbrev pub con_token : ConLeaf → Token
-con_token (PlainCon t) = t.0
-con_token (DottedCon t) = t.0
+-- [SOURCE]
+pub data IsMark : List Token → List Token → Bool → Type 0 where
+  NoMark : {a : List Token} → IsMark a a false
+  SourceMark : {a : List Token} {t : Token} → sign_of t ≡ Pragma → IsMark (t ∷ a) a true
 
-abbrev pub sub_tokens : Sub → List Token → List Token
-sub_tokens (SubVar v) ts = var_token v ∷ ts
-sub_tokens (SubCon t) ts = t.0 ∷ ts
-sub_tokens (SubVarOp o t c) ts = o.0 ∷ t.0 ∷ c.0 ∷ ts
-sub_tokens (SubConOp o t c) ts = o.0 ∷ t.0 ∷ c.0 ∷ ts
+-- [qualified]
+pub data IsQualifier : List Token → List Token → Bool → Type 0 where
+  NoQualifier : {a : List Token} → IsQualifier a a false
+  Qualifier : {a : List Token} {t : Token} → is_qualified t ≡ true → IsQualifier (t ∷ a) a true
 
-abbrev pub more_subs_tokens : MoreSubs → List Token → List Token
-more_subs_tokens (SubsEnd c) ts = c.0 ∷ ts
-more_subs_tokens (SubsMore m s r) ts = m.0 ∷ sub_tokens s (more_subs_tokens r ts)
+-- [SOURCE] [qualified] modid [as modid] [[hiding] ( .. )], behind an `import` at this place
+pub data IsImport (at : Pos) : List Token → List Token → ImportItem → Type 0 where
+  OneImport : {a b c d e : List Token} {t : Token} {source qualified : Bool} {alias : Option NameRef} {list : Option ImportList}
+      → IsMark a b source → IsQualifier b (t ∷ c) qualified → is_qconid (sign_of t) ≡ true → IsAlias c d alias → IsList d e list
+      → IsImport at a e (record { at = at; source = source; qualified = qualified; «module» = module_ref t; alias = alias; list = list })
 
-abbrev pub told_tokens : Told → List Token → List Token
-told_tokens Untold ts = ts
-told_tokens (ToldAll o d c) ts = o.0 ∷ d.0 ∷ c.0 ∷ ts
-told_tokens (ToldNone o c) ts = o.0 ∷ c.0 ∷ ts
-told_tokens (ToldSome o s r) ts = o.0 ∷ sub_tokens s (more_subs_tokens r ts)
+-- What may follow: behind an import the closing brace of the block's sort, behind the opening brace or a semicolon any
+-- lexeme but `import` and a semicolon; or nothing.
+abbrev pub EndsImport : Bool → List Token → Type 0
+EndsImport put [] = Unit {0}
+EndsImport put (t ∷ ts) = sign_of t ≡ CloseBrace put
 
-abbrev pub more_tokens : {X : Type 0} → (X → List Token → List Token) → More X → List Token → List Token
-more_tokens f (ListEnd c) ts = c.0 ∷ ts
-more_tokens f (CommaEnd m c) ts = m.0 ∷ c.0 ∷ ts
-more_tokens f (ListMore m x r) ts = m.0 ∷ f x (more_tokens f r ts)
+abbrev pub EndsBlock : List Token → Type 0
+EndsBlock [] = Unit {0}
+EndsBlock (t ∷ ts) = (sign_of t ≡ Import → ⊥) × (sign_of t ≡ Semicolon → ⊥)
 
-abbrev pub listing_tokens : {X : Type 0} → (X → List Token → List Token) → Listing X → List Token → List Token
-listing_tokens f (Empty c) ts = c.0 ∷ ts
-listing_tokens f (Lone m c) ts = m.0 ∷ c.0 ∷ ts
-listing_tokens f (Items x r) ts = f x (more_tokens f r ts)
+-- the imports of a block, with semicolons between them, before them and behind them, up to what follows them
+pub data IsImports (put : Bool) : List Token → List Token → List ImportItem → Type 0 where
+  NoImports : {a : List Token} → EndsBlock a → IsImports put a a []
+  NextPart : {a b : List Token} {m : Token} {xs : List ImportItem} → sign_of m ≡ Semicolon → IsImports put a b xs → IsImports put (m ∷ a) b xs
+  LastImport : {a b : List Token} {i : Token} {x : ImportItem} → sign_of i ≡ Import → IsImport i.at a b x → EndsImport put b → IsImports put (i ∷ a) b (x ∷ [])
+  MoreImports : {a b c : List Token} {i m : Token} {x : ImportItem} {xs : List ImportItem} → sign_of i ≡ Import → IsImport i.at a (m ∷ b) x → sign_of m ≡ Semicolon → IsImports put b c xs → IsImports put (i ∷ a) c (x ∷ xs)
 
-abbrev pub export_tokens : Export → List Token → List Token
-export_tokens (OfVar v) ts = export_var_token v ∷ ts
-export_tokens (OfOp o t c) ts = o.0 ∷ export_op_token t ∷ c.0 ∷ ts
-export_tokens (OfType n told) ts = con_token n ∷ told_tokens told ts
-export_tokens (OfModule m n) ts = m.0 ∷ con_token n ∷ ts
+-- Headers.
 
-abbrev pub item_tokens : Item → List Token → List Token
-item_tokens (ItemVar v) ts = var_token v ∷ ts
-item_tokens (ItemOp o t c) ts = o.0 ∷ t.0 ∷ c.0 ∷ ts
-item_tokens (ItemType n told) ts = n.0 ∷ told_tokens told ts
-
-abbrev pub lists_tokens : Lists → List Token → List Token
-lists_tokens Unlisted ts = ts
-lists_tokens (Meant o l) ts = o.0 ∷ listing_tokens item_tokens l ts
-lists_tokens (Hidden h o l) ts = h.0 ∷ o.0 ∷ listing_tokens item_tokens l ts
-
-abbrev pub alias_tokens : Alias → List Token → List Token
-alias_tokens NoAlias ts = ts
-alias_tokens (Called a n) ts = a.0 ∷ con_token n ∷ ts
-
-abbrev pub flags_tokens : Flags → List Token → List Token
-flags_tokens NoFlag ts = ts
-flags_tokens (Sourced s) ts = s.0 ∷ ts
-flags_tokens (Dotted q) ts = q.0 ∷ ts
-flags_tokens (BothFlags s q) ts = s.0 ∷ q.0 ∷ ts
-
-abbrev pub import_tokens : ImportLine → List Token → List Token
-import_tokens (ImportOf i f n a l) ts = i.0 ∷ flags_tokens f (con_token n ∷ alias_tokens a (lists_tokens l ts))
-
-abbrev pub block_tokens : Block → List Token → List Token
-block_tokens NoMore ts = ts
-block_tokens (Gap n b) ts = n.0 ∷ block_tokens b ts
-block_tokens (Last i) ts = import_tokens i ts
-block_tokens (Then i n b) ts = import_tokens i (n.0 ∷ block_tokens b ts)
-
-abbrev pub exports_tokens : Exports → List Token → List Token
-exports_tokens NoExports ts = ts
-exports_tokens (Listed o l) ts = o.0 ∷ listing_tokens export_tokens l ts
-
-abbrev pub front_tokens : Front → List Token → List Token
-front_tokens (NoLine put o) ts = o.0 ∷ ts
-front_tokens (Line m n e w put o) ts = m.0 ∷ con_token n ∷ exports_tokens e (w.0 ∷ o.0 ∷ ts)
-
--- The trees of what is written.
-
-abbrev pub sub_tree : Sub → SubTree
-sub_tree (SubVar v) = sub.Var (var_token v).at (name_ref (var_token v))
-sub_tree (SubCon t) = sub.Con t.0.at (name_ref t.0)
-sub_tree (SubVarOp o t c) = sub.Var o.0.at (name_ref t.0)
-sub_tree (SubConOp o t c) = sub.Con o.0.at (name_ref t.0)
-
-abbrev pub more_sub_trees : MoreSubs → List SubTree
-more_sub_trees (SubsEnd c) = []
-more_sub_trees (SubsMore m s r) = sub_tree s ∷ more_sub_trees r
-
-abbrev pub told_tree : Told → Option Subs
-told_tree Untold = None
-told_tree (ToldAll o d c) = Some subs.All
-told_tree (ToldNone o c) = Some (subs.Listed [])
-told_tree (ToldSome o s r) = Some (subs.Listed (sub_tree s ∷ more_sub_trees r))
-
-abbrev pub more_trees : {X : Type 0} → {Y : Type 0} → (X → Y) → More X → List Y
-more_trees f (ListEnd c) = []
-more_trees f (CommaEnd m c) = []
-more_trees f (ListMore m x r) = f x ∷ more_trees f r
-
-abbrev pub listing_trees : {X : Type 0} → {Y : Type 0} → (X → Y) → Listing X → List Y
-listing_trees f (Empty c) = []
-listing_trees f (Lone m c) = []
-listing_trees f (Items x r) = f x ∷ more_trees f r
-
-abbrev pub export_tree : Export → ExportItem
-export_tree (OfVar v) = export.Var (export_var_token v).at (name_ref (export_var_token v))
-export_tree (OfOp o t c) = export.Var o.0.at (name_ref (export_op_token t))
-export_tree (OfType n told) = export.Type (con_token n).at (name_ref (con_token n)) (told_tree told)
-export_tree (OfModule m n) = export.Module m.0.at (module_ref (con_token n))
-
-abbrev pub item_tree : Item → IitemTree
-item_tree (ItemVar v) = iitem.Var (var_token v).at (name_ref (var_token v))
-item_tree (ItemOp o t c) = iitem.Var o.0.at (name_ref t.0)
-item_tree (ItemType n told) = iitem.Type n.0.at (name_ref n.0) (told_tree told)
-
-abbrev pub lists_tree : Lists → Option ImportList
-lists_tree Unlisted = None
-lists_tree (Meant o l) = Some (record { hiding = false; items = listing_trees item_tree l })
-lists_tree (Hidden h o l) = Some (record { hiding = true; items = listing_trees item_tree l })
-
-abbrev pub alias_tree : Alias → Option NameRef
-alias_tree NoAlias = None
-alias_tree (Called a n) = Some (module_ref (con_token n))
-
-abbrev pub has_source : Flags → Bool
-has_source NoFlag = false
-has_source (Sourced s) = true
-has_source (Dotted q) = false
-has_source (BothFlags s q) = true
-
-abbrev pub is_qualified : Flags → Bool
-is_qualified NoFlag = false
-is_qualified (Sourced s) = false
-is_qualified (Dotted q) = true
-is_qualified (BothFlags s q) = true
-
-abbrev pub import_tree : ImportLine → ImportItem
-import_tree (ImportOf i f n a l) = record { at = i.0.at; source = has_source f; qualified = is_qualified f; «module» = module_ref (con_token n); alias = alias_tree a; list = lists_tree l }
-
-abbrev pub block_trees : Block → List ImportItem
-block_trees NoMore = []
-block_trees (Gap n b) = block_trees b
-block_trees (Last i) = import_tree i ∷ []
-block_trees (Then i n b) = import_tree i ∷ block_trees b
-
-abbrev pub exports_tree : Exports → Option (List ExportItem)
-exports_tree NoExports = None
-exports_tree (Listed o l) = Some (listing_trees export_tree l)
+-- a header of the module that a token names
+abbrev pub header : Token → Option (List ExportItem) → List ImportItem → Header
+header t exports imports = record { name = record { text = t.text }; at = t.at; exports = exports; imports = imports; prelude = None; restrict = None }
 
 -- a module without `module` line is `module Main (main) where`
-abbrev pub header_of : Front → List ImportItem → Header
-header_of (NoLine put o) is = record { name = main_header.name; at = main_header.at; exports = Some (main_export ∷ []); imports = is; prelude = None; restrict = None }
-header_of (Line m n e w put o) is = record { name = record { text = (con_token n).text }; at = (con_token n).at; exports = exports_tree e; imports = is; prelude = None; restrict = None }
+abbrev pub main_export : ExportItem
+main_export = export.Var first_place (record { qualifier = []; text = codes "main"; at = first_place; to = None })
 
--- whether layout put the opening brace
-abbrev pub is_put : Front → Bool
-is_put (NoLine put o) = put
-is_put (Line m n e w put o) = put
+abbrev pub main_header : List ImportItem → Header
+main_header imports = record { name = record { text = codes "Main" }; at = first_place; exports = Some (main_export ∷ []); imports = imports; prelude = None; restrict = None }
 
--- What may follow a header: behind the opening brace or a semicolon any lexeme but `import` and a semicolon, behind an import the closing brace of the block's sort; or nothing.
-abbrev pub MayFollow : Bool → Block → List Token → Type 0
-MayFollow put NoMore [] = Unit {0}
-MayFollow put NoMore (t ∷ ts) = (terminal_of t ≡ Import → ⊥) × (terminal_of t ≡ Next → ⊥)
-MayFollow put (Gap n b) ts = MayFollow put b ts
-MayFollow put (Last i) [] = Unit {0}
-MayFollow put (Last i) (t ∷ ts) = terminal_of t ≡ Close put
-MayFollow put (Then i n b) ts = MayFollow put b ts
+-- [module modid [exports] where] and the imports of the module's block, up to what follows them
+pub data IsHeader : List Token → List Token → Header → Type 0 where
+  LineHeader : {a b c : List Token} {m t w o : Token} {put : Bool} {es : Option (List ExportItem)} {xs : List ImportItem}
+      → sign_of m ≡ Module → is_qconid (sign_of t) ≡ true → IsExports a (w ∷ o ∷ b) es → sign_of w ≡ Where → sign_of o ≡ OpenBrace put → IsImports put b c xs
+      → IsHeader (m ∷ t ∷ a) c (header t es xs)
+  MainHeader : {a b : List Token} {o : Token} {put : Bool} {xs : List ImportItem} → sign_of o ≡ OpenBrace put → IsImports put a b xs → IsHeader (o ∷ a) b (main_header xs)
 
--- the tokens begin with this header, up to and without what follows it
-abbrev pub IsHeader : List Token → Header → Type 0
-IsHeader ts h = (f : Front) × (b : Block) × (rest : List Token) × (ts ≡ front_tokens f (block_tokens b rest)) × MayFollow (is_put f) b rest × (header_of f (block_trees b) ≡ h)
+-- the tokens begin some header
+abbrev pub Begins : List Token → Type 0
+Begins ts = (rest b : List Token) × (h : Header) × IsHeader (ts ++ rest) b h
 
--- The machine over all tokens.
+-- The tokens begin a header up to one at this place, and none with it.
+abbrev pub IsLeftAt : List Token → Pos → Type 0
+IsLeftAt ts at = (before behind : List Token) × (t : Token) × (ts ≡ before ++ t ∷ behind) × (t.at ≡ at) × Begins before × (Begins (before ++ t ∷ []) → ⊥)
 
-pub data Reading : Type 0 where
-  Read : Header → Reading
-  Bad : ℕ → Reading
-  Short : Reading
-
-abbrev pub at_end : Option Header → Reading
-at_end (Some h) = Read h
-at_end None = Short
-
-abbrev pub behind : Reading → Reading
-behind (Read h) = Read h
-behind (Bad n) = Bad (suc n)
-behind Short = Short
-
-abbrev pub turned : Turn → (State → Reading) → Reading
-turned (On s) f = behind (f s)
-turned (Whole h) f = Read h
-turned Leaves f = Bad 0
-
--- the header, or the number of tokens before the first that leaves the grammar, or neither where the tokens end too early
-abbrev pub read_all : State → List Token → Reading
-read_all s [] = at_end (ended s)
-read_all s (t ∷ ts) = turned (step s t) (λ n. read_all n ts)
-
--- these tokens begin some header
-abbrev pub IsFront : List Token → Type 0
-IsFront ts = (rest : List Token) × (h : Header) × IsHeader (ts ++ rest) h
-
--- Tokens are read as a header exactly where they begin with it, and leave the grammar exactly at the first token with which they begin none.
-abbrev pub HeaderIsSpelled : Type 0
-HeaderIsSpelled = (ts : List Token)
-    → ((h : Header) → (read_all start ts ≡ Read h) ↔ IsHeader ts h)
-    × ((n : ℕ) → (read_all start ts ≡ Bad n) ↔ ((n < length ts) × IsFront (take n ts) × (IsFront (take (suc n) ts) → ⊥)))
-    × ((read_all start ts ≡ Short) ↔ (IsFront ts × ((h : Header) → IsHeader ts h → ⊥)))
+-- The tokens end before a header is whole.
+abbrev pub IsCut : List Token → Type 0
+IsCut ts = Begins ts × ((b : List Token) (h : Header) → IsHeader ts b h → ⊥)

@@ -1,6 +1,7 @@
-pub mod Names
-pub mod Terminals
-pub mod Machine
 pub mod Grammar
+pub mod Readers
+pub mod Names
 pub mod Extensions
+pub mod Stages
 pub mod Reading
+pub mod Gathering

@@ -1,29 +1,101 @@
--- A header read from a source: the source's lexemes, the flags that pragmas for LANGUAGE set, the signs that layout puts
--- before each lexeme, and the header's machine over the lexemes and the signs.
-use Rattle.std.specs.Prelude.{◌≡◌, ◌<◌, ℕ, Bool, true, false, ◌&&◌, List, [], ◌∷◌, length, map, Option, Some, None, Result, Ok, Err, if◌then◌else◌}
+-- The header of a source: the pragmas for LANGUAGE in front, and the grammar over the lexemes behind them with the signs
+-- that layout puts.
+use Rattle.std.specs.Prelude.{◌≡◌, ◌≢◌, ◌⊎◌, ◌↔◌, ℕ, List, [], ◌∷◌, ◌++◌, map, Option, Some, None, Result, Ok, Err, if◌then◌else◌}
 use Rattle.mk_base.specs.declared.place.Pos.{Pos}
+use Rattle.mk_base.specs.Places.{first_place}
 use Rattle.hs_syntax.specs.declared.header.Header.{Header}
 use Rattle.hs_syntax.specs.declared.token.Token.{Token}
-use Rattle.hs_lex.specs.Slow.{lexemes_from, lexemes_of}
+use Rattle.hs_lex.specs.Slow.{lexemes_of}
+use Rattle.hs_layout.specs.declared.state.State.{State}
 use Rattle.hs_layout.specs.Braced.{is_pragma, pieces, after, at_end, put_token}
 use Rattle.hs_layout.specs.Braced as layout
-use Rattle.hs_header.specs.declared.state.State.{State}
-use Rattle.hs_header.specs.declared.state.Turn.{Turn}
-use Rattle.hs_header.specs.declared.state.Turn.TheVariants as turn
+use Rattle.hs_header.specs.declared.expected.Stop.TheVariants as stop
 use Rattle.hs_header.specs.declared.extension.Flags.{Flags}
 use Rattle.hs_header.specs.declared.header_err.HeaderErr.{HeaderErr}
 use Rattle.hs_header.specs.declared.header_err.HeaderErr.TheVariants as error
-use Rattle.hs_header.specs.declared.read.Run.{Run}
-use Rattle.hs_header.specs.declared.read.Run.TheVariants as run
-use Rattle.hs_header.specs.declared.read.Progress.{Progress}
-use Rattle.hs_header.specs.declared.read.Next.{Next}
-use Rattle.hs_header.specs.declared.read.Next.TheVariants as next
-use Rattle.hs_header.specs.declared.read.Reader.{Reader}
-use Rattle.hs_header.specs.declared.read.Step.{Step}
-use Rattle.hs_header.specs.declared.read.Step.TheVariants as step
-use Rattle.hs_lex.specs.Tokens.{IsReached}
 use Rattle.hs_header.specs.Extensions.{Word, flags_of}
-use Rattle.hs_header.specs.Machine as machine
+use Rattle.hs_header.specs.Grammar.{IsHeader, Begins, IsLeftAt, IsCut}
+use Rattle.hs_header.specs.Readers.{Answer, header_at}
+
+-- The lexemes.
+
+-- Pragmas before the first other lexeme are for LANGUAGE: those in front, and what stands behind them.
+abbrev pub leading : List Token → List Token
+leading [] = []
+leading (t ∷ ts) = if is_pragma t.kind then t ∷ leading ts else []
+
+abbrev pub behind_leading : List Token → List Token
+behind_leading [] = []
+behind_leading (t ∷ ts) = if is_pragma t.kind then behind_leading ts else t ∷ ts
+
+-- what pragmas say in turn, or the first extension in them that isn't known
+abbrev pub on_flags : Result Flags Word → (Flags → Result Flags Word) → Result Flags Word
+on_flags (Ok f) on = on f
+on_flags (Err w) on = Err w
+
+abbrev pub flags_by : Flags → List Token → Result Flags Word
+flags_by f [] = Ok f
+flags_by f (t ∷ ts) = on_flags (flags_of f t) (λ g. flags_by g ts)
+
+abbrev pub no_flags : Flags
+no_flags = record { prelude = None; restrict = None }
+
+-- lexemes with the signs before each; where the input ends behind them, with those at the end
+abbrev pub end_signs : State → Option Pos → List Token
+end_signs st None = map (put_token st.end) (at_end st).puts
+end_signs st (Some at) = []
+
+abbrev pub laid : State → List Token → Option Pos → List Token
+laid st [] bad = end_signs st bad
+laid st (t ∷ ts) bad = pieces st t ++ laid (after st t) ts bad
+
+-- the place of the last of some tokens
+abbrev pub last_of : Pos → List Token → Pos
+last_of p [] = p
+last_of p (t ∷ ts) = last_of t.at ts
+
+-- Of a source: its lexemes up to the first place at which none begins, and that place.
+
+abbrev pub lexemes : List ℕ → List Token
+lexemes source = (lexemes_of source).0
+
+abbrev pub bad_place : List ℕ → Option Pos
+bad_place source = (lexemes_of source).1
+
+abbrev pub flags_in : List ℕ → Result Flags Word
+flags_in source = flags_by no_flags (leading (lexemes source))
+
+abbrev pub laid_out : List ℕ → List Token
+laid_out source = laid layout.start (behind_leading (lexemes source)) (bad_place source)
+
+-- the header with what the pragmas say
+abbrev pub flagged : Header → Flags → Header
+flagged h f = record h { prelude = f.prelude; restrict = f.restrict }
+
+-- What becomes of a source.
+
+-- Where lexemes end at a bad place, a header is decided by a lexeme behind it alone.
+abbrev pub IsDecided : Option Pos → List Token → Type 0
+IsDecided None b = Unit {0}
+IsDecided (Some at) b = b ≢ []
+
+-- it has this header
+abbrev pub IsHeaderOf : List ℕ → Header → Type 0
+IsHeaderOf source h = (f : Flags) × (b : List Token) × (g : Header) × (flags_in source ≡ Ok f) × IsHeader (laid_out source) b g × IsDecided (bad_place source) b × (h ≡ flagged g f)
+
+-- no lexeme begins at this place, and all that stands before it begins a header, which is not decided there
+abbrev pub IsBadAt : List ℕ → Pos → Type 0
+IsBadAt source at = (f : Flags) × (flags_in source ≡ Ok f) × (bad_place source ≡ Some at) × Begins (laid_out source) × ((h : Header) → IsHeaderOf source h → ⊥)
+
+-- it leaves the grammar at this place; where the input ends too early, that is the place of its last lexeme
+abbrev pub IsNoneAt : List ℕ → Pos → Type 0
+IsNoneAt source at = (f : Flags) × (flags_in source ≡ Ok f) × (IsLeftAt (laid_out source) at ⊎ ((bad_place source ≡ None) × IsCut (laid_out source) × (at ≡ last_of first_place (lexemes source))))
+
+-- it names an extension that isn't known, at this place
+abbrev pub IsUnknownAt : List ℕ → Pos → List ℕ → Type 0
+IsUnknownAt source at name = flags_in source ≡ Err (at, name)
+
+-- The same as a function.
 
 -- Why a source has no header: a place at which no lexeme begins, the lexeme with which the grammar is left, or an
 -- extension that isn't known, with its place.
@@ -32,73 +104,37 @@ pub data Fault : Type 0 where
   Grammar : Pos → Fault
   Unknown : Pos → List ℕ → Fault
 
--- what the machine makes of some tokens in turn: it goes on, or is whole or has left the grammar before their end
-abbrev pub behind : Turn → Token → (State → Run) → Run
-behind (turn.On s) t on = on s
-behind (turn.Whole h) t on = run.Whole h
-behind turn.Leaves t on = run.Leaves t.at
+abbrev pub whole : Option Pos → List Token → Header → Result Header Fault
+whole (Some at) [] h = Err (Lexeme at)
+whole _ b h = Ok h
 
-abbrev pub steps : State → List Token → Run
-steps s [] = run.On s
-steps s (t ∷ ts) = behind (machine.step s t) t (λ u. steps u ts)
+abbrev pub cut : Option Pos → Pos → Result Header Fault
+cut None last = Err (Grammar last)
+cut (Some at) last = Err (Lexeme at)
 
--- the header with what the pragmas say
-abbrev pub flagged : Header → Flags → Header
-flagged h f = record h { prelude = f.prelude; restrict = f.restrict }
+abbrev pub concluded : Flags → Option Pos → Pos → Answer Header → Result Header Fault
+concluded f bad last (Ok p) = whole bad p.1 (flagged p.0 f)
+concluded f bad last (Err (stop.At at)) = Err (Grammar at)
+concluded f bad last (Err stop.End) = cut bad last
 
--- before the first lexeme
-abbrev pub start : Progress
-start = record { front = true; last = record { line = 1; col = 1 }; layout = layout.start; flags = record { prelude = None; restrict = None }; state = machine.start }
+-- behind the pragmas in front
+abbrev pub behind_pragmas : Pos → List Token → Option Pos → Flags → Result Header Fault
+behind_pragmas last ts bad f = concluded f bad (last_of last ts) (header_at (laid layout.start ts bad))
 
--- over a pragma for LANGUAGE
-abbrev pub by_flags : Progress → Token → Result Flags Word → Result Next Fault
-by_flags k t (Ok f) = Ok (next.On (record k { last = t.at; flags = f }))
-by_flags k t (Err w) = Err (Unknown w.0 w.1)
-
--- over any other lexeme, with the signs before it
-abbrev pub by_run : Progress → Token → Run → Result Next Fault
-by_run k t (run.On s) = Ok (next.On (record { front = false; last = t.at; layout = after k.layout t; flags = k.flags; state = s }))
-by_run k t (run.Whole h) = Ok (next.Whole (flagged h k.flags))
-by_run k t (run.Leaves at) = Err (Grammar at)
-
--- Pragmas before the first other lexeme are for LANGUAGE, and the machine doesn't see them.
-abbrev pub is_language : Progress → Token → Bool
-is_language k t = k.front && is_pragma t.kind
-
--- over a lexeme
-unfoldable pub over : Progress → Token → Result Next Fault
-over k t = if is_language k t then by_flags k t (flags_of k.flags t) else by_run k t (steps k.state (pieces k.layout t))
-
--- at the end of the input, with the signs that layout puts there; where the header isn't whole, the fault is at the last lexeme, which may be a pragma
-abbrev pub by_ended : Flags → Pos → Option Header → Result Header Fault
-by_ended f last (Some h) = Ok (flagged h f)
-by_ended f last None = Err (Grammar last)
-
-abbrev pub by_last : Progress → Run → Result Header Fault
-by_last k (run.On s) = by_ended k.flags k.last (machine.ended s)
-by_last k (run.Whole h) = Ok (flagged h k.flags)
-by_last k (run.Leaves at) = Err (Grammar k.last)
-
-unfoldable pub at_last : Progress → Result Header Fault
-at_last k = by_last k (steps k.state (map (put_token k.layout.end) (at_end k.layout).puts))
-
-abbrev pub going_on : Result Next Fault → (Progress → Result Header Fault) → Result Header Fault
-going_on (Ok (next.On k)) on = on k
-going_on (Ok (next.Whole h)) on = Ok h
-going_on (Err e) on = Err e
-
-abbrev pub where_lexemes_end : Progress → Option Pos → Result Header Fault
-where_lexemes_end k None = at_last k
-where_lexemes_end k (Some at) = Err (Lexeme at)
-
--- over some lexemes, behind which the input ends or a place stands at which no lexeme begins
-unfoldable pub over_all : Progress → List Token → Option Pos → Result Header Fault
-over_all k [] o = where_lexemes_end k o
-over_all k (t ∷ ts) o = going_on (over k t) (λ m. over_all m ts o)
+abbrev pub with_flags : Result Flags Word → (Flags → Result Header Fault) → Result Header Fault
+with_flags (Ok f) on = on f
+with_flags (Err w) on = Err (Unknown w.0 w.1)
 
 -- The header of a source.
 unfoldable pub header_of : List ℕ → Result Header Fault
-header_of source = over_all start (lexemes_of source).0 (lexemes_of source).1
+header_of source = with_flags (flags_in source) (λ f. concluded f (bad_place source) (last_of first_place (lexemes source)) (header_at (laid_out source)))
+
+-- The function tells what becomes of a source.
+pub record TellsHeader (source : List ℕ) : Type 0 where
+  pub header : (h : Header) → (header_of source ≡ Ok h) ↔ IsHeaderOf source h
+  pub bad : (at : Pos) → (header_of source ≡ Err (Lexeme at)) ↔ IsBadAt source at
+  pub none : (at : Pos) → (header_of source ≡ Err (Grammar at)) ↔ IsNoneAt source at
+  pub unknown : (at : Pos) (name : List ℕ) → (header_of source ≡ Err (Unknown at name)) ↔ IsUnknownAt source at name
 
 -- the error tells the fault
 abbrev pub IsFault : {A : Type 0} → Result A Fault → HeaderErr → Type 0
@@ -106,12 +142,3 @@ IsFault r (error.Lexeme at) = r ≡ Err (Lexeme at)
 IsFault r (error.Grammar at) = r ≡ Err (Grammar at)
 IsFault r (error.Extension at name) = r ≡ Err (Unknown at name)
 IsFault r error.NoMemory = Unit {0}
-
--- from a cursor on
-abbrev pub rest_of : List ℕ → Reader → Result Header Fault
-rest_of source r = over_all r.known (lexemes_from source r.cursor).0 (lexemes_from source r.cursor).1
-
--- what reading one lexeme came to: the header is done, or the rest goes on behind the lexeme
-abbrev pub IsStep : List ℕ → Reader → Step → Type 0
-IsStep source r (step.On s) = (rest_of source r ≡ rest_of source s) × IsReached source s.cursor × (length (lexemes_from source s.cursor).0 < length (lexemes_from source r.cursor).0)
-IsStep source r (step.Done h) = rest_of source r ≡ Ok h

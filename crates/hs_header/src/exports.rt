@@ -1,253 +1,194 @@
-//! The `module` line and its exports (Haskell 2010 Report, sections 5.1 and 5.2).
-ghost use Rattle.std.specs.Prelude.{◌≡◌, ◌∷◌, [], IfOk};
-ghost use Rattle.hs_header.specs.Machine as spec;
+//! Exports (Haskell 2010 Report, section 5.2).
+ghost use Rattle.std.specs.Prelude.{◌≡◌, [], ◌∷◌, IfOk};
+ghost use Rattle.hs_header.specs.Readers.{seen, export_at};
+ghost use Rattle.hs_header.specs.Readers as spec;
 
-use crate::name::{module_ref, name_ref};
-use crate::parts::{goes, opened, with_export, with_exports, with_name};
-use crate::state::{Former, Known, Stage, Turn};
-use crate::terminal::Terminal;
+use crate::expected::{Found, Stop, Wanted, enclosed, expected};
+use crate::subs::told;
 use hs_syntax::header::ExportItem;
-use hs_syntax::name_ref::NameRef;
+use hs_syntax::parted::{module_ref, name_ref};
+use hs_syntax::sign::{Sign, first_of};
 use hs_syntax::token::Token;
 use mk_base::list::List;
-use mk_base::memory::NoMemory;
-use mk_base::place::Pos;
-use mk_base::text::Text;
 use std::alloc::Global;
 
-/// The export of a module without `module` line.
-fn main_export(alloc: Global) -> Result<ExportItem, NoMemory>
-    ensures { IfOk result (λ e. e ≡ spec.main_export) }
+/// The export of a variable.
+fn var_export<'a>(alloc: Global, first: &Token, rest: &'a [Token]) -> Found<'a, ExportItem>
+    ensures { IfOk result (λ r. seen r ≡ spec.var_export first.now rest.now) }
 {
-    let at = Pos { line: 1, col: 1 };
-    let text = Text::from_slice(alloc, b"main")?;
-    let name = NameRef {
-        qualifier: Text::new(alloc),
-        text,
-        at,
-        to: None,
-    };
-    Ok(ExportItem::Var { at, name })
+    let name = name_ref(alloc, first)?;
+    let at = first.at;
+    Ok(Ok((ExportItem::Var { at, name }, rest)))
 }
 
-/// What is known of a module without `module` line behind its opening brace.
-fn main_module(alloc: Global, known: Known, put: bool) -> Result<Known, NoMemory>
-    ensures { IfOk result (λ k. k ≡ spec.opened (spec.with_exports known (spec.main_export ∷ [])) put) }
+/// The export of an operator behind a parenthesis.
+fn symbol_export<'a>(alloc: Global, first: &Token, rest: &'a [Token]) -> Found<'a, ExportItem>
+    ensures { IfOk result (λ r. seen r ≡ spec.symbol_export first.now rest.now) }
 {
-    let item = main_export(alloc)?;
-    let mut exports = List::new(alloc);
-    exports.push(item)?;
-    Ok(opened(with_exports(known, exports), put))
-}
-
-/// The first token: `module`, or the opening brace of a module without `module` line.
-pub fn at_start(alloc: Global, known: Known, terminal: Terminal) -> Result<Turn, NoMemory>
-    ensures { IfOk result (λ turn. turn ≡ spec.at_start known terminal) }
-{
-    match terminal {
-        Terminal::Module => Ok(goes(known, Stage::Name)),
-        Terminal::Open(put) => Ok(goes(main_module(alloc, known, put)?, Stage::Body)),
-        _ => Ok(Turn::Leaves),
-    }
-}
-
-/// Behind `module`: the module's name.
-pub fn at_name(
-    alloc: Global,
-    known: Known,
-    terminal: Terminal,
-    token: &Token,
-) -> Result<Turn, NoMemory>
-    ensures { IfOk result (λ turn. turn ≡ spec.at_name known terminal token.now) }
-{
-    match terminal {
-        Terminal::Con => Ok(goes(with_name(alloc, known, token)?, Stage::NameRead)),
-        Terminal::QualifiedCon => Ok(goes(with_name(alloc, known, token)?, Stage::NameRead)),
-        _ => Ok(Turn::Leaves),
-    }
-}
-
-/// Behind the module's name: the exports or `where`.
-pub fn at_name_read(alloc: Global, known: Known, terminal: Terminal) -> Turn
-    ensures { result ≡ spec.at_name_read known terminal }
-{
-    match terminal {
-        Terminal::OpenParen => goes(with_exports(known, List::new(alloc)), Stage::ExportFirst),
-        Terminal::Where => goes(known, Stage::Open),
-        _ => Turn::Leaves,
-    }
-}
-
-/// Behind the exports: `where`.
-pub fn at_where(known: Known, terminal: Terminal) -> Turn
-    ensures { result ≡ spec.at_where known terminal }
-{
-    match terminal {
-        Terminal::Where => goes(known, Stage::Open),
-        _ => Turn::Leaves,
-    }
-}
-
-/// Behind `where`: the opening brace.
-pub fn at_open(known: Known, terminal: Terminal) -> Turn
-    ensures { result ≡ spec.at_open known terminal }
-{
-    match terminal {
-        Terminal::Open(put) => goes(opened(known, put), Stage::Body),
-        _ => Turn::Leaves,
-    }
-}
-
-/// The exports with the variable that a token names.
-fn with_var(alloc: Global, known: Known, token: &Token) -> Result<Turn, NoMemory>
-    ensures { IfOk result (λ turn. turn ≡ spec.at_export known Terminal.QualifiedVar token.now) }
-{
-    let name = name_ref(alloc, token)?;
-    let item = ExportItem::Var { at: token.at, name };
-    Ok(goes(with_export(alloc, known, item)?, Stage::ExportRead))
-}
-
-/// The type or class that a token names, its parts not read yet.
-fn with_former(alloc: Global, known: Known, token: &Token) -> Result<Turn, NoMemory>
-    ensures { IfOk result (λ turn. turn ≡ spec.at_export known Terminal.Con token.now) }
-{
-    let name = name_ref(alloc, token)?;
-    let former = Former {
-        at: token.at,
-        name,
-        import: None,
-    };
-    Ok(goes(known, Stage::FormerRead(former)))
-}
-
-/// The first token of an export.
-fn at_export(
-    alloc: Global,
-    known: Known,
-    terminal: Terminal,
-    token: &Token,
-) -> Result<Turn, NoMemory>
-    ensures { IfOk result (λ turn. turn ≡ spec.at_export known terminal token.now) }
-{
-    match terminal {
-        Terminal::Module => Ok(goes(known, Stage::ExportModule(token.at))),
-        Terminal::OpenParen => Ok(goes(known, Stage::ExportOperator(token.at))),
-        Terminal::Var(_) => with_var(alloc, known, token),
-        Terminal::QualifiedVar => with_var(alloc, known, token),
-        Terminal::Con => with_former(alloc, known, token),
-        Terminal::QualifiedCon => with_former(alloc, known, token),
-        _ => Ok(Turn::Leaves),
-    }
-}
-
-/// Behind the opening parenthesis of the exports.
-pub fn at_export_first(
-    alloc: Global,
-    known: Known,
-    terminal: Terminal,
-    token: &Token,
-) -> Result<Turn, NoMemory>
-    ensures { IfOk result (λ turn. turn ≡ spec.at_export_first known terminal token.now) }
-{
-    match terminal {
-        Terminal::CloseParen => Ok(goes(known, Stage::ExportsRead)),
-        Terminal::Comma => Ok(goes(known, Stage::ExportEnd)),
-        _ => at_export(alloc, known, terminal, token),
-    }
-}
-
-/// Behind a comma that follows an export.
-pub fn at_export_next(
-    alloc: Global,
-    known: Known,
-    terminal: Terminal,
-    token: &Token,
-) -> Result<Turn, NoMemory>
-    ensures { IfOk result (λ turn. turn ≡ spec.at_export_next known terminal token.now) }
-{
-    match terminal {
-        Terminal::CloseParen => Ok(goes(known, Stage::ExportsRead)),
-        _ => at_export(alloc, known, terminal, token),
-    }
-}
-
-/// Behind `module` at a place among the exports: the module's name.
-pub fn at_export_module(
-    alloc: Global,
-    known: Known,
-    at: Pos,
-    terminal: Terminal,
-    token: &Token,
-) -> Result<Turn, NoMemory>
-    ensures { IfOk result (λ turn. turn ≡ spec.at_export_module known at terminal token.now) }
-{
-    match terminal {
-        Terminal::Con => with_module(alloc, known, at, token),
-        Terminal::QualifiedCon => with_module(alloc, known, at, token),
-        _ => Ok(Turn::Leaves),
-    }
-}
-
-/// The exports with the module that a token names.
-fn with_module(alloc: Global, known: Known, at: Pos, token: &Token) -> Result<Turn, NoMemory>
-    ensures { IfOk result (λ turn. turn ≡ spec.at_export_module known at Terminal.Con token.now) }
-{
-    let module = module_ref(alloc, token)?;
-    let item = ExportItem::Module { at, module };
-    Ok(goes(with_export(alloc, known, item)?, Stage::ExportRead))
-}
-
-/// Behind the operator that a token names, the closing parenthesis not read yet.
-fn with_operator(alloc: Global, known: Known, at: Pos, token: &Token) -> Result<Turn, NoMemory>
-    ensures { IfOk result (λ turn. turn ≡ spec.at_export_operator known at Terminal.VarOperator token.now) }
-{
-    let name = name_ref(alloc, token)?;
-    Ok(goes(known, Stage::ExportClose(at, name)))
-}
-
-/// Behind a parenthesis at a place among the exports: an operator.
-pub fn at_export_operator(
-    alloc: Global,
-    known: Known,
-    at: Pos,
-    terminal: Terminal,
-    token: &Token,
-) -> Result<Turn, NoMemory>
-    ensures { IfOk result (λ turn. turn ≡ spec.at_export_operator known at terminal token.now) }
-{
-    match terminal {
-        Terminal::VarOperator => with_operator(alloc, known, at, token),
-        Terminal::QualifiedVarOperator => with_operator(alloc, known, at, token),
-        _ => Ok(Turn::Leaves),
-    }
-}
-
-/// Behind an operator among the exports: the closing parenthesis.
-pub fn at_export_close(
-    alloc: Global,
-    known: Known,
-    at: Pos,
-    name: NameRef,
-    terminal: Terminal,
-) -> Result<Turn, NoMemory>
-    ensures { IfOk result (λ turn. turn ≡ spec.at_export_close known at name terminal) }
-{
-    match terminal {
-        Terminal::CloseParen => {
-            let item = ExportItem::Var { at, name };
-            Ok(goes(with_export(alloc, known, item)?, Stage::ExportRead))
+    match enclosed(Wanted::QualifiedVarSym, rest) {
+        Err(stop) => Ok(Err(stop)),
+        Ok((token, behind)) => {
+            let name = name_ref(alloc, token)?;
+            let at = first.at;
+            Ok(Ok((ExportItem::Var { at, name }, behind)))
         }
-        _ => Ok(Turn::Leaves),
     }
 }
 
-/// Behind an export.
-pub fn at_export_read(known: Known, terminal: Terminal) -> Turn
-    ensures { result ≡ spec.at_export_read known terminal }
+/// The export of a type or class.
+fn type_export<'a>(
+    alloc: Global,
+    left: usize,
+    first: &Token,
+    rest: &'a [Token],
+) -> Found<'a, ExportItem>
+    ensures { IfOk result (λ r. seen r ≡ spec.type_export left first.now rest.now) }
 {
-    match terminal {
-        Terminal::Comma => goes(known, Stage::ExportNext),
-        Terminal::CloseParen => goes(known, Stage::ExportsRead),
-        _ => Turn::Leaves,
+    match told(alloc, left, rest)? {
+        Err(stop) => Ok(Err(stop)),
+        Ok((subs, behind)) => {
+            let name = name_ref(alloc, first)?;
+            let at = first.at;
+            Ok(Ok((ExportItem::Type { at, name, subs }, behind)))
+        }
+    }
+}
+
+/// The export of a module behind `module`.
+fn module_export<'a>(alloc: Global, first: &Token, rest: &'a [Token]) -> Found<'a, ExportItem>
+    ensures { IfOk result (λ r. seen r ≡ spec.module_export first.now rest.now) }
+{
+    match expected(Wanted::ModId, rest) {
+        Err(stop) => Ok(Err(stop)),
+        Ok((token, behind)) => {
+            let module = module_ref(alloc, token)?;
+            let at = first.at;
+            Ok(Ok((ExportItem::Module { at, module }, behind)))
+        }
+    }
+}
+
+/// An export.
+#[tactic(auto, unfolding(crate::specs::Readers::export_at))]
+fn export<'a>(alloc: Global, left: usize, tokens: &'a [Token]) -> Found<'a, ExportItem>
+    ensures { IfOk result (λ r. seen r ≡ spec.export_at left tokens.now) }
+{
+    let Some(first) = first_of(tokens) else {
+        return Ok(Err(Stop::End));
+    };
+    match first.sign {
+        Sign::Var => var_export(alloc, first.token, first.rest),
+        Sign::QualifiedVar => var_export(alloc, first.token, first.rest),
+        Sign::OpenParen => symbol_export(alloc, first.token, first.rest),
+        Sign::Con => type_export(alloc, left, first.token, first.rest),
+        Sign::QualifiedCon => type_export(alloc, left, first.token, first.rest),
+        Sign::Module => module_export(alloc, first.token, first.rest),
+        _ => Ok(Err(Stop::At(first.token.at))),
+    }
+}
+
+/// A further export behind a comma; None where the list ends.
+fn next_export<'a>(alloc: Global, left: usize, tokens: &'a [Token]) -> Found<'a, Option<ExportItem>>
+    ensures { IfOk result (λ r. seen r ≡ spec.next_at export_at left tokens.now) }
+{
+    let Some(first) = first_of(tokens) else {
+        return Ok(Err(Stop::End));
+    };
+    match first.sign {
+        Sign::CloseParen => Ok(Ok((None, first.rest))),
+        _ => match export(alloc, left, tokens)? {
+            Err(stop) => Ok(Err(stop)),
+            Ok((item, behind)) => Ok(Ok((Some(item), behind))),
+        },
+    }
+}
+
+/// The exports behind one, up to the closing parenthesis.
+#[tactic(auto, using(crate::proofs::Steps::more_step, crate::proofs::Steps::more_end))]
+fn more_exports<'a>(
+    alloc: Global,
+    left: usize,
+    first: ExportItem,
+    tokens: &'a [Token],
+) -> Found<'a, List<ExportItem>>
+    ensures { IfOk result (λ r. seen r ≡ spec.more export_at left (first ∷ []) tokens.now) }
+{
+    let mut items = List::new(alloc);
+    items.push(first)?;
+    let mut left = left;
+    let mut rest = tokens;
+    while left > 0 {
+        left -= 1;
+        let Some(next) = first_of(rest) else {
+            return Ok(Err(Stop::End));
+        };
+        match next.sign {
+            Sign::CloseParen => return Ok(Ok((items, next.rest))),
+            Sign::Comma => match next_export(alloc, left, next.rest)? {
+                Err(stop) => return Ok(Err(stop)),
+                Ok((found, behind)) => match found {
+                    None => return Ok(Ok((items, behind))),
+                    Some(item) => {
+                        items.push(item)?;
+                        rest = behind;
+                    }
+                },
+            },
+            _ => return Ok(Err(Stop::At(next.token.at))),
+        }
+    }
+    Ok(Err(Stop::End))
+}
+
+/// Some exports, up to the closing parenthesis.
+fn some_exports<'a>(alloc: Global, left: usize, tokens: &'a [Token]) -> Found<'a, List<ExportItem>>
+    ensures { IfOk result (λ r. seen r ≡ spec.some_listed export_at left tokens.now) }
+{
+    match export(alloc, left, tokens)? {
+        Err(stop) => Ok(Err(stop)),
+        Ok((first, rest)) => more_exports(alloc, left, first, rest),
+    }
+}
+
+/// What stands behind the opening parenthesis of the exports.
+#[tactic(auto, unfolding(crate::specs::Readers::listing))]
+fn listed_exports<'a>(
+    alloc: Global,
+    left: usize,
+    tokens: &'a [Token],
+) -> Found<'a, List<ExportItem>>
+    ensures { IfOk result (λ r. seen r ≡ spec.listing export_at left tokens.now) }
+{
+    let Some(first) = first_of(tokens) else {
+        return Ok(Err(Stop::End));
+    };
+    match first.sign {
+        Sign::CloseParen => Ok(Ok((List::new(alloc), first.rest))),
+        Sign::Comma => match expected(Wanted::CloseParen, first.rest) {
+            Err(stop) => Ok(Err(stop)),
+            Ok((_, behind)) => Ok(Ok((List::new(alloc), behind))),
+        },
+        _ => some_exports(alloc, left, tokens),
+    }
+}
+
+/// The exports in parentheses, if they are listed.
+#[tactic(auto, unfolding(crate::specs::Readers::exports_at))]
+pub fn exports<'a>(
+    alloc: Global,
+    left: usize,
+    tokens: &'a [Token],
+) -> Found<'a, Option<List<ExportItem>>>
+    ensures { IfOk result (λ r. seen r ≡ spec.exports_at left tokens.now) }
+{
+    let Some(first) = first_of(tokens) else {
+        return Ok(Ok((None, tokens)));
+    };
+    match first.sign {
+        Sign::OpenParen => match listed_exports(alloc, left, first.rest)? {
+            Err(stop) => Ok(Err(stop)),
+            Ok((items, behind)) => Ok(Ok((Some(items), behind))),
+        },
+        _ => Ok(Ok((None, tokens))),
     }
 }

@@ -1,179 +1,182 @@
-//! The body of a module and its imports, without their lists (Haskell 2010 Report, sections 5.1 and 5.3).
-ghost use Rattle.std.specs.Prelude.{◌≡◌, IfOk};
-ghost use Rattle.hs_header.specs.Machine as spec;
+//! Imports (Haskell 2010 Report, section 5.3).
+ghost use Rattle.std.specs.Prelude.{◌≡◌, [], ◌∷◌, codes, IfOk};
+ghost use Rattle.hs_header.specs.Readers.{seen, tail_seen, pair_seen};
+ghost use Rattle.hs_header.specs.Readers as spec;
 
-use crate::parts::{goes, import_of, leaves, with_alias, with_import, with_list};
-use crate::state::{Begun, Known, Stage, Turn};
-use crate::terminal::{Terminal, VarWord};
-use hs_syntax::header::{Header, ImportItem};
+use crate::expected::{Found, Stop, Wanted, expected, is_word};
+use crate::items::list;
+use hs_syntax::header::ImportItem;
+use hs_syntax::name_ref::NameRef;
+use hs_syntax::parted::module_ref;
+use hs_syntax::sign::{Sign, first_of};
 use hs_syntax::token::Token;
-use mk_base::memory::NoMemory;
+use mk_base::list::List;
+use mk_base::place::Pos;
 use std::alloc::Global;
 
-/// Behind the opening brace or a semicolon.
-pub fn at_body(known: Known, terminal: Terminal, token: &Token) -> Turn
-    ensures { result ≡ spec.at_body known terminal token.now }
+/// Whether the pragma for SOURCE stands first, and the tokens behind it.
+#[tactic(auto, unfolding(crate::specs::Readers::mark_at))]
+fn mark(tokens: &[Token]) -> (bool, &[Token])
+    ensures { pair_seen result ≡ spec.mark_at tokens.now }
 {
-    match terminal {
-        Terminal::Import => {
-            let begun = Begun {
-                at: token.at,
-                source: false,
-                qualified: false,
-            };
-            goes(known, Stage::ImportFirst(begun))
+    let Some(first) = first_of(tokens) else {
+        return (false, tokens);
+    };
+    match first.sign {
+        Sign::Pragma => (true, first.rest),
+        _ => (false, tokens),
+    }
+}
+
+/// Whether `qualified` stands first, and the tokens behind it.
+#[tactic(auto, unfolding(crate::specs::Readers::qualifier_at))]
+fn qualifier(tokens: &[Token]) -> (bool, &[Token])
+    ensures { pair_seen result ≡ spec.qualifier_at tokens.now }
+{
+    let Some(first) = first_of(tokens) else {
+        return (false, tokens);
+    };
+    if is_word(first.sign, first.token.text.as_slice(), b"qualified") {
+        (true, first.rest)
+    } else {
+        (false, tokens)
+    }
+}
+
+/// The alias of an import, if it has one.
+#[tactic(auto, unfolding(crate::specs::Readers::alias_at))]
+fn alias<'a>(alloc: Global, tokens: &'a [Token]) -> Found<'a, Option<NameRef>>
+    ensures { IfOk result (λ r. seen r ≡ spec.alias_at tokens.now) }
+{
+    let Some(first) = first_of(tokens) else {
+        return Ok(Ok((None, tokens)));
+    };
+    if !is_word(first.sign, first.token.text.as_slice(), b"as") {
+        return Ok(Ok((None, tokens)));
+    }
+    match expected(Wanted::ModId, first.rest) {
+        Err(stop) => Ok(Err(stop)),
+        Ok((token, behind)) => Ok(Ok((Some(module_ref(alloc, token)?), behind))),
+    }
+}
+
+/// What is known of an import before its module.
+#[derive(Clone, Copy)]
+pub struct Begun {
+    /// The place of `import`.
+    pub at: Pos,
+    pub source: bool,
+    pub qualified: bool,
+}
+
+/// An import from its module on.
+#[tactic(auto, unfolding(crate::specs::Readers::named_at))]
+fn named<'a>(alloc: Global, left: usize, begun: Begun, tokens: &'a [Token]) -> Found<'a, ImportItem>
+    ensures { IfOk result (λ r. seen r ≡ spec.named_at left begun.at begun.source begun.qualified tokens.now) }
+{
+    match expected(Wanted::ModId, tokens) {
+        Err(stop) => Ok(Err(stop)),
+        Ok((token, rest)) => match alias(alloc, rest)? {
+            Err(stop) => Ok(Err(stop)),
+            Ok((alias, rest)) => match list(alloc, left, rest)? {
+                Err(stop) => Ok(Err(stop)),
+                Ok((list, behind)) => {
+                    let module = module_ref(alloc, token)?;
+                    let Begun {
+                        at,
+                        source,
+                        qualified,
+                    } = begun;
+                    let item = ImportItem {
+                        at,
+                        source,
+                        qualified,
+                        module,
+                        alias,
+                        list,
+                    };
+                    Ok(Ok((item, behind)))
+                }
+            },
+        },
+    }
+}
+
+/// An import, behind the `import` at a place.
+#[tactic(auto, unfolding(crate::specs::Readers::import_at))]
+fn import<'a>(alloc: Global, left: usize, at: Pos, tokens: &'a [Token]) -> Found<'a, ImportItem>
+    ensures { IfOk result (λ r. seen r ≡ spec.import_at left at tokens.now) }
+{
+    let (source, rest) = mark(tokens);
+    let (qualified, rest) = qualifier(rest);
+    let begun = Begun {
+        at,
+        source,
+        qualified,
+    };
+    named(alloc, left, begun, rest)
+}
+
+fn same_sort(a: bool, b: bool) -> bool
+    ensures { result ≡ spec.same_sort a b }
+{
+    a == b
+}
+
+/// The tokens behind a semicolon that follows an import; None where what may follow a header stands there. The braces
+/// of the block are put or written.
+fn behind_import(put: bool, tokens: &[Token]) -> Result<Option<&[Token]>, Stop>
+    ensures { tail_seen result ≡ spec.behind_at put tokens.now }
+{
+    let Some(first) = first_of(tokens) else {
+        return Ok(None);
+    };
+    match first.sign {
+        Sign::Semicolon => Ok(Some(first.rest)),
+        Sign::CloseBrace(sort) => {
+            if same_sort(put, sort) {
+                Ok(None)
+            } else {
+                Err(Stop::At(first.token.at))
+            }
         }
-        Terminal::Next => goes(known, Stage::Body),
-        _ => Turn::Whole(known.header),
+        _ => Err(Stop::At(first.token.at)),
     }
 }
 
-/// Behind `import`.
-pub fn at_import_first(
+/// The imports of a block whose opening brace was put or written, up to what follows them.
+#[tactic(auto, using(crate::proofs::Steps::imports_step, crate::proofs::Steps::imports_end))]
+pub fn imports<'a>(
     alloc: Global,
-    known: Known,
-    begun: Begun,
-    terminal: Terminal,
-    token: &Token,
-) -> Result<Turn, NoMemory>
-    ensures { IfOk result (λ turn. turn ≡ spec.at_import_first known begun terminal token.now) }
+    left: usize,
+    put: bool,
+    tokens: &'a [Token],
+) -> Found<'a, List<ImportItem>>
+    ensures { IfOk result (λ r. seen r ≡ spec.imports_at put left [] tokens.now) }
 {
-    match terminal {
-        Terminal::Source => {
-            let marked = Begun {
-                at: begun.at,
-                source: true,
-                qualified: begun.qualified,
-            };
-            Ok(goes(known, Stage::ImportMarked(marked)))
+    let mut items = List::new(alloc);
+    let mut left = left;
+    let mut rest = tokens;
+    while left > 0 {
+        left -= 1;
+        let Some(first) = first_of(rest) else {
+            return Ok(Ok((items, rest)));
+        };
+        match first.sign {
+            Sign::Semicolon => rest = first.rest,
+            Sign::Import => match import(alloc, left, first.token.at, first.rest)? {
+                Err(stop) => return Ok(Err(stop)),
+                Ok((item, behind)) => {
+                    items.push(item)?;
+                    match behind_import(put, behind) {
+                        Err(stop) => return Ok(Err(stop)),
+                        Ok(None) => return Ok(Ok((items, behind))),
+                        Ok(Some(next)) => rest = next,
+                    }
+                }
+            },
+            _ => return Ok(Ok((items, rest))),
         }
-        _ => at_import_marked(alloc, known, begun, terminal, token),
     }
-}
-
-/// Behind `import` and the pragma for SOURCE, where there is one.
-pub fn at_import_marked(
-    alloc: Global,
-    known: Known,
-    begun: Begun,
-    terminal: Terminal,
-    token: &Token,
-) -> Result<Turn, NoMemory>
-    ensures { IfOk result (λ turn. turn ≡ spec.at_import_marked known begun terminal token.now) }
-{
-    match terminal {
-        Terminal::Var(VarWord::Qualified) => {
-            let qualified = Begun {
-                at: begun.at,
-                source: begun.source,
-                qualified: true,
-            };
-            Ok(goes(known, Stage::ImportName(qualified)))
-        }
-        _ => at_import_name(alloc, known, begun, terminal, token),
-    }
-}
-
-/// Where the name of an imported module stands.
-pub fn at_import_name(
-    alloc: Global,
-    known: Known,
-    begun: Begun,
-    terminal: Terminal,
-    token: &Token,
-) -> Result<Turn, NoMemory>
-    ensures { IfOk result (λ turn. turn ≡ spec.at_import_name known begun terminal token.now) }
-{
-    match terminal {
-        Terminal::Con => Ok(goes(known, Stage::ImportRead(import_of(alloc, begun, token)?))),
-        Terminal::QualifiedCon => Ok(goes(
-            known,
-            Stage::ImportRead(import_of(alloc, begun, token)?),
-        )),
-        _ => Ok(Turn::Leaves),
-    }
-}
-
-/// Behind the name of an imported module.
-pub fn at_import_read(
-    alloc: Global,
-    known: Known,
-    item: ImportItem,
-    terminal: Terminal,
-) -> Result<Turn, NoMemory>
-    ensures { IfOk result (λ turn. turn ≡ spec.at_import_read known item terminal) }
-{
-    match terminal {
-        Terminal::Var(VarWord::As) => Ok(goes(known, Stage::ImportAs(item))),
-        _ => at_alias_read(alloc, known, item, terminal),
-    }
-}
-
-/// Behind the alias that a token names.
-fn aliased(alloc: Global, known: Known, item: ImportItem, token: &Token) -> Result<Turn, NoMemory>
-    ensures { IfOk result (λ turn. turn ≡ spec.at_import_as known item Terminal.Con token.now) }
-{
-    let item = with_alias(alloc, item, token)?;
-    Ok(goes(known, Stage::AliasRead(item)))
-}
-
-/// Behind `as`: the alias.
-pub fn at_import_as(
-    alloc: Global,
-    known: Known,
-    item: ImportItem,
-    terminal: Terminal,
-    token: &Token,
-) -> Result<Turn, NoMemory>
-    ensures { IfOk result (λ turn. turn ≡ spec.at_import_as known item terminal token.now) }
-{
-    match terminal {
-        Terminal::Con => aliased(alloc, known, item, token),
-        Terminal::QualifiedCon => aliased(alloc, known, item, token),
-        _ => Ok(leaves(known, Stage::ImportAs(item))),
-    }
-}
-
-/// Behind the name of an imported module and its alias, where there is one.
-pub fn at_alias_read(
-    alloc: Global,
-    known: Known,
-    item: ImportItem,
-    terminal: Terminal,
-) -> Result<Turn, NoMemory>
-    ensures { IfOk result (λ turn. turn ≡ spec.at_alias_read known item terminal) }
-{
-    match terminal {
-        Terminal::Var(VarWord::Hiding) => Ok(goes(
-            known,
-            Stage::ListHiding(with_list(alloc, item, true)),
-        )),
-        Terminal::OpenParen => Ok(goes(known, Stage::ItemFirst(with_list(alloc, item, false)))),
-        _ => at_list_read(known, item, terminal),
-    }
-}
-
-/// Behind a whole import: a semicolon, or the closing brace of the block's sort.
-pub fn at_list_read(known: Known, item: ImportItem, terminal: Terminal) -> Result<Turn, NoMemory>
-    ensures { IfOk result (λ turn. turn ≡ spec.at_list_read known item terminal) }
-{
-    match terminal {
-        Terminal::Next => Ok(goes(with_import(known, item)?, Stage::Body)),
-        Terminal::Close(put) => {
-            let known = with_import(known, item)?;
-            Ok(ends(known.put, put, known.header))
-        }
-        _ => Ok(leaves(known, Stage::ListRead(item))),
-    }
-}
-
-/// The end of a header at a closing brace.
-fn ends(opened: bool, put: bool, header: Header) -> Turn
-    ensures { result ≡ spec.ends opened put header }
-{
-    match (opened, put) {
-        (true, true) => Turn::Whole(header),
-        (false, false) => Turn::Whole(header),
-        _ => Turn::Leaves,
-    }
+    Ok(Err(Stop::End))
 }

@@ -1,186 +1,201 @@
 //! The lists of imports (Haskell 2010 Report, section 5.3).
-ghost use Rattle.std.specs.Prelude.{◌≡◌, IfOk};
-ghost use Rattle.hs_header.specs.Machine as spec;
-ghost use Rattle.hs_header.specs.Names as names;
-ghost use Rattle.hs_header.specs.declared.state.Stage.TheVariants as stage;
-ghost use Rattle.hs_syntax.specs.declared.header.IitemTree.TheVariants as iitem;
+ghost use Rattle.std.specs.Prelude.{◌≡◌, [], ◌∷◌, codes, IfOk};
+ghost use Rattle.hs_header.specs.Readers.{seen, item_at};
+ghost use Rattle.hs_header.specs.Readers as spec;
 
-use crate::name::name_ref;
-use crate::parts::{goes, leaves, with_item};
-use crate::state::{Former, Known, Stage, Turn};
-use crate::terminal::Terminal;
-use hs_syntax::header::{IitemTree, ImportItem};
-use hs_syntax::name_ref::NameRef;
+use crate::expected::{Found, Stop, Wanted, enclosed, expected, is_word};
+use crate::subs::told;
+use hs_syntax::header::{IitemTree, ImportList};
+use hs_syntax::parted::name_ref;
+use hs_syntax::sign::{Sign, first_of};
 use hs_syntax::token::Token;
-use mk_base::memory::NoMemory;
-use mk_base::place::Pos;
+use mk_base::list::List;
 use std::alloc::Global;
 
-/// Behind `hiding`: the opening parenthesis.
-pub fn at_list_hiding(known: Known, item: ImportItem, terminal: Terminal) -> Turn
-    ensures { result ≡ spec.at_list_hiding known item terminal }
+/// A variable of the list.
+fn var_item<'a>(alloc: Global, first: &Token, rest: &'a [Token]) -> Found<'a, IitemTree>
+    ensures { IfOk result (λ r. seen r ≡ spec.var_item first.now rest.now) }
 {
-    match terminal {
-        Terminal::OpenParen => goes(known, Stage::ItemFirst(item)),
-        _ => leaves(known, Stage::ListHiding(item)),
+    let name = name_ref(alloc, first)?;
+    let at = first.at;
+    Ok(Ok((IitemTree::Var { at, name }, rest)))
+}
+
+/// An operator of the list, behind a parenthesis.
+fn symbol_item<'a>(alloc: Global, first: &Token, rest: &'a [Token]) -> Found<'a, IitemTree>
+    ensures { IfOk result (λ r. seen r ≡ spec.symbol_item first.now rest.now) }
+{
+    match enclosed(Wanted::VarSym, rest) {
+        Err(stop) => Ok(Err(stop)),
+        Ok((token, behind)) => {
+            let name = name_ref(alloc, token)?;
+            let at = first.at;
+            Ok(Ok((IitemTree::Var { at, name }, behind)))
+        }
     }
 }
 
-/// Behind a name of the list.
-pub fn whole_item(
+/// A type or class of the list.
+fn type_item<'a>(
     alloc: Global,
-    known: Known,
-    item: ImportItem,
-    name: IitemTree,
-) -> Result<Turn, NoMemory>
-    ensures { IfOk result (λ turn. turn ≡ spec.goes known (stage.ItemRead (spec.with_item item name))) }
+    left: usize,
+    first: &Token,
+    rest: &'a [Token],
+) -> Found<'a, IitemTree>
+    ensures { IfOk result (λ r. seen r ≡ spec.type_item left first.now rest.now) }
 {
-    let item = with_item(alloc, item, name)?;
-    Ok(goes(known, Stage::ItemRead(item)))
+    match told(alloc, left, rest)? {
+        Err(stop) => Ok(Err(stop)),
+        Ok((subs, behind)) => {
+            let name = name_ref(alloc, first)?;
+            let at = first.at;
+            Ok(Ok((IitemTree::Type { at, name, subs }, behind)))
+        }
+    }
 }
 
-/// Behind a variable of the list.
-fn with_var(alloc: Global, known: Known, item: ImportItem, token: &Token) -> Result<Turn, NoMemory>
-    ensures { IfOk result (λ turn. turn ≡ spec.goes known (stage.ItemRead (spec.with_item item (iitem.Var token.now.at (names.name_ref token.now))))) }
+/// A name of the list.
+#[tactic(auto, unfolding(crate::specs::Readers::item_at))]
+fn item<'a>(alloc: Global, left: usize, tokens: &'a [Token]) -> Found<'a, IitemTree>
+    ensures { IfOk result (λ r. seen r ≡ spec.item_at left tokens.now) }
 {
-    let name = name_ref(alloc, token)?;
-    whole_item(alloc, known, item, IitemTree::Var { at: token.at, name })
-}
-
-/// Behind a type or class of the list.
-fn with_former(
-    alloc: Global,
-    known: Known,
-    item: ImportItem,
-    token: &Token,
-) -> Result<Turn, NoMemory>
-    ensures { IfOk result (λ turn. turn ≡ spec.at_item known item Terminal.Con token.now) }
-{
-    let name = name_ref(alloc, token)?;
-    let former = Former {
-        at: token.at,
-        name,
-        import: Some(item),
+    let Some(first) = first_of(tokens) else {
+        return Ok(Err(Stop::End));
     };
-    Ok(goes(known, Stage::FormerRead(former)))
-}
-
-/// Behind an operator of the list.
-fn with_operator(
-    alloc: Global,
-    known: Known,
-    item: ImportItem,
-    at: Pos,
-    token: &Token,
-) -> Result<Turn, NoMemory>
-    ensures { IfOk result (λ turn. turn ≡ spec.at_item_operator known item at Terminal.VarOperator token.now) }
-{
-    let name = name_ref(alloc, token)?;
-    Ok(goes(known, Stage::ItemClose(item, at, name)))
-}
-
-/// The first token of a name in the list.
-fn at_item(
-    alloc: Global,
-    known: Known,
-    item: ImportItem,
-    terminal: Terminal,
-    token: &Token,
-) -> Result<Turn, NoMemory>
-    ensures { IfOk result (λ turn. turn ≡ spec.at_item known item terminal token.now) }
-{
-    match terminal {
-        Terminal::OpenParen => Ok(goes(known, Stage::ItemOperator(item, token.at))),
-        Terminal::Var(_) => with_var(alloc, known, item, token),
-        Terminal::Con => with_former(alloc, known, item, token),
-        _ => Ok(leaves(known, Stage::ItemFirst(item))),
+    match first.sign {
+        Sign::Var => var_item(alloc, first.token, first.rest),
+        Sign::OpenParen => symbol_item(alloc, first.token, first.rest),
+        Sign::Con => type_item(alloc, left, first.token, first.rest),
+        _ => Ok(Err(Stop::At(first.token.at))),
     }
 }
 
-/// Behind the opening parenthesis of the list.
-pub fn at_item_first(
+/// A further name behind a comma; None where the list ends.
+fn next_item<'a>(alloc: Global, left: usize, tokens: &'a [Token]) -> Found<'a, Option<IitemTree>>
+    ensures { IfOk result (λ r. seen r ≡ spec.next_at item_at left tokens.now) }
+{
+    let Some(first) = first_of(tokens) else {
+        return Ok(Err(Stop::End));
+    };
+    match first.sign {
+        Sign::CloseParen => Ok(Ok((None, first.rest))),
+        _ => match item(alloc, left, tokens)? {
+            Err(stop) => Ok(Err(stop)),
+            Ok((item, behind)) => Ok(Ok((Some(item), behind))),
+        },
+    }
+}
+
+/// The names behind one, up to the closing parenthesis.
+#[tactic(auto, using(crate::proofs::Steps::more_step, crate::proofs::Steps::more_end))]
+fn more_items<'a>(
     alloc: Global,
-    known: Known,
-    item: ImportItem,
-    terminal: Terminal,
-    token: &Token,
-) -> Result<Turn, NoMemory>
-    ensures { IfOk result (λ turn. turn ≡ spec.at_item_first known item terminal token.now) }
+    left: usize,
+    first: IitemTree,
+    tokens: &'a [Token],
+) -> Found<'a, List<IitemTree>>
+    ensures { IfOk result (λ r. seen r ≡ spec.more item_at left (first ∷ []) tokens.now) }
 {
-    match terminal {
-        Terminal::CloseParen => Ok(goes(known, Stage::ListRead(item))),
-        Terminal::Comma => Ok(goes(known, Stage::ItemEnd(item))),
-        _ => at_item(alloc, known, item, terminal, token),
+    let mut items = List::new(alloc);
+    items.push(first)?;
+    let mut left = left;
+    let mut rest = tokens;
+    while left > 0 {
+        left -= 1;
+        let Some(next) = first_of(rest) else {
+            return Ok(Err(Stop::End));
+        };
+        match next.sign {
+            Sign::CloseParen => return Ok(Ok((items, next.rest))),
+            Sign::Comma => match next_item(alloc, left, next.rest)? {
+                Err(stop) => return Ok(Err(stop)),
+                Ok((found, behind)) => match found {
+                    None => return Ok(Ok((items, behind))),
+                    Some(item) => {
+                        items.push(item)?;
+                        rest = behind;
+                    }
+                },
+            },
+            _ => return Ok(Err(Stop::At(next.token.at))),
+        }
+    }
+    Ok(Err(Stop::End))
+}
+
+/// Some names, up to the closing parenthesis.
+fn some_items<'a>(alloc: Global, left: usize, tokens: &'a [Token]) -> Found<'a, List<IitemTree>>
+    ensures { IfOk result (λ r. seen r ≡ spec.some_listed item_at left tokens.now) }
+{
+    match item(alloc, left, tokens)? {
+        Err(stop) => Ok(Err(stop)),
+        Ok((first, rest)) => more_items(alloc, left, first, rest),
     }
 }
 
-/// Behind a comma that follows a name in the list.
-pub fn at_item_next(
-    alloc: Global,
-    known: Known,
-    item: ImportItem,
-    terminal: Terminal,
-    token: &Token,
-) -> Result<Turn, NoMemory>
-    ensures { IfOk result (λ turn. turn ≡ spec.at_item_next known item terminal token.now) }
+/// What stands behind the opening parenthesis of the list.
+#[tactic(auto, unfolding(crate::specs::Readers::listing))]
+fn listed_items<'a>(alloc: Global, left: usize, tokens: &'a [Token]) -> Found<'a, List<IitemTree>>
+    ensures { IfOk result (λ r. seen r ≡ spec.listing item_at left tokens.now) }
 {
-    match terminal {
-        Terminal::CloseParen => Ok(goes(known, Stage::ListRead(item))),
-        _ => at_item(alloc, known, item, terminal, token),
+    let Some(first) = first_of(tokens) else {
+        return Ok(Err(Stop::End));
+    };
+    match first.sign {
+        Sign::CloseParen => Ok(Ok((List::new(alloc), first.rest))),
+        Sign::Comma => match expected(Wanted::CloseParen, first.rest) {
+            Err(stop) => Ok(Err(stop)),
+            Ok((_, behind)) => Ok(Ok((List::new(alloc), behind))),
+        },
+        _ => some_items(alloc, left, tokens),
     }
 }
 
-/// Behind a parenthesis at a place in the list: an operator.
-pub fn at_item_operator(
-    alloc: Global,
-    known: Known,
-    item: ImportItem,
-    at: Pos,
-    terminal: Terminal,
-    token: &Token,
-) -> Result<Turn, NoMemory>
-    ensures { IfOk result (λ turn. turn ≡ spec.at_item_operator known item at terminal token.now) }
+/// The names that are meant, behind the opening parenthesis.
+fn meant<'a>(alloc: Global, left: usize, tokens: &'a [Token]) -> Found<'a, Option<ImportList>>
+    ensures { IfOk result (λ r. seen r ≡ spec.meant left tokens.now) }
 {
-    match terminal {
-        Terminal::VarOperator => with_operator(alloc, known, item, at, token),
-        _ => Ok(leaves(known, Stage::ItemOperator(item, at))),
+    match listed_items(alloc, left, tokens)? {
+        Err(stop) => Ok(Err(stop)),
+        Ok((items, behind)) => {
+            let hiding = false;
+            Ok(Ok((Some(ImportList { hiding, items }), behind)))
+        }
     }
 }
 
-/// Behind an operator in the list: the closing parenthesis.
-pub fn at_item_close(
-    alloc: Global,
-    known: Known,
-    item: ImportItem,
-    at: Pos,
-    name: NameRef,
-    terminal: Terminal,
-) -> Result<Turn, NoMemory>
-    ensures { IfOk result (λ turn. turn ≡ spec.at_item_close known item at name terminal) }
+/// The names that are left out, behind `hiding`.
+fn hidden<'a>(alloc: Global, left: usize, tokens: &'a [Token]) -> Found<'a, Option<ImportList>>
+    ensures { IfOk result (λ r. seen r ≡ spec.hidden left tokens.now) }
 {
-    match terminal {
-        Terminal::CloseParen => whole_item(alloc, known, item, IitemTree::Var { at, name }),
-        _ => Ok(leaves(known, Stage::ItemClose(item, at, name))),
+    match expected(Wanted::OpenParen, tokens) {
+        Err(stop) => Ok(Err(stop)),
+        Ok((_, rest)) => match listed_items(alloc, left, rest)? {
+            Err(stop) => Ok(Err(stop)),
+            Ok((items, behind)) => {
+                let hiding = true;
+                Ok(Ok((Some(ImportList { hiding, items }), behind)))
+            }
+        },
     }
 }
 
-/// Behind a name in the list.
-pub fn at_item_read(known: Known, item: ImportItem, terminal: Terminal) -> Turn
-    ensures { result ≡ spec.at_item_read known item terminal }
+/// The list of an import, if it has one.
+#[tactic(auto, unfolding(crate::specs::Readers::list_at))]
+pub fn list<'a>(alloc: Global, left: usize, tokens: &'a [Token]) -> Found<'a, Option<ImportList>>
+    ensures { IfOk result (λ r. seen r ≡ spec.list_at left tokens.now) }
 {
-    match terminal {
-        Terminal::Comma => goes(known, Stage::ItemNext(item)),
-        Terminal::CloseParen => goes(known, Stage::ListRead(item)),
-        _ => leaves(known, Stage::ItemRead(item)),
-    }
-}
-
-/// A closing parenthesis.
-pub fn at_close(known: Known, stage: Stage, terminal: Terminal) -> Turn
-    ensures { result ≡ spec.at_close known stage terminal }
-{
-    match terminal {
-        Terminal::CloseParen => goes(known, stage),
-        _ => leaves(known, stage),
+    let Some(first) = first_of(tokens) else {
+        return Ok(Ok((None, tokens)));
+    };
+    match first.sign {
+        Sign::OpenParen => meant(alloc, left, first.rest),
+        _ => {
+            if is_word(first.sign, first.token.text.as_slice(), b"hiding") {
+                hidden(alloc, left, first.rest)
+            } else {
+                Ok(Ok((None, tokens)))
+            }
+        }
     }
 }

@@ -1,12 +1,13 @@
-//! The machine against the grammar of headers, and what is read of lexemes against what the lexer has in them.
-ghost use Rattle.hs_header.specs.Grammar.{HeaderIsSpelled};
+//! The function of a source against its outcomes, and what is read of lexemes against what the lexer has in them.
+ghost use Rattle.std.specs.Prelude.{List, ℕ};
+ghost use Rattle.hs_header.specs.Reading.{TellsHeader};
 ghost use Rattle.hs_header.specs.Extensions.{WordsAreNames};
 ghost use Rattle.hs_header.specs.Names.{NamesAreParted};
 
-/// Tokens are read as a header exactly where they begin with it, and leave the grammar exactly at the first token with
-/// which they begin no header.
-pub fn header_is_its_spelling()
-    ensures { HeaderIsSpelled }
+/// A source has one header, or one fault, and the function tells which: so the outcomes exclude one another, and one
+/// always holds.
+pub fn header_is_told()
+    ensures { (source : List ℕ) → TellsHeader source }
 {}
 
 /// The words of a pragma for LANGUAGE are the names that the lexer finds in it.

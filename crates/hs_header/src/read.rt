@@ -1,16 +1,17 @@
 //! The header of a source.
-ghost use Rattle.std.specs.Prelude.{◌≡◌, ◌<◌, ◌≤◌, ◌+◌, ◌*◌, ◌^◌, List, ℕ, length, map, false, IfOk, MatchResult, Ok, Err};
+ghost use Rattle.std.specs.Prelude.{◌≡◌, ◌≤◌, List, ℕ, length, IfOk, OnOk, MatchResult, Ok, Err};
 ghost use Rattle.mk_base.specs.declared.place.Pos.{Pos};
-ghost use Rattle.hs_layout.specs.Braced.{pieces};
-ghost use Rattle.hs_lex.specs.Tokens.{IsReached, IsNext, IsBlank};
-ghost use Rattle.hs_header.specs.Reading.{Lexeme, Grammar, Unknown, IsFault, IsStep, steps, flagged, start, is_language, by_flags, by_run, by_ended, over, at_last, rest_of, header_of};
-ghost use Rattle.hs_header.specs.Extensions.{flags_of};
-ghost use Rattle.hs_header.specs.Machine.{ended};
+ghost use Rattle.hs_lex.specs.Tokens.{IsReached};
+ghost use Rattle.hs_lex.specs.Slow.{lexemes_from};
+ghost use Rattle.hs_header.specs.Reading.{IsHeaderOf, IsBadAt, IsNoneAt, IsUnknownAt, IsFault, whole, cut, header_of};
+ghost use Rattle.hs_header.specs.Reading as spec;
+ghost use Rattle.hs_header.specs.Gathering.{IsGathered, IsTurned, IsPassed, IsEnded, bad_at, conclusion, rest_in_front, rest_of, with_lexeme};
+ghost use Rattle.hs_layout.specs.Braced as braced;
 
 use crate::extension::{Flags, flags_of};
+use crate::header::{Stop, read_tokens};
 use crate::header_err::HeaderErr;
-use crate::state::{State, Turn};
-use crate::step::{ended, start as start_machine, step};
+use crate::stage::{Stage, behind, is_over};
 use hs_layout::braced::{finish, take_token};
 use hs_layout::state::{State as Layout, start as start_layout};
 use hs_lex::cursor::{Cursor, start as start_cursor};
@@ -22,67 +23,177 @@ use mk_base::memory::NoMemory;
 use mk_base::place::Pos;
 use std::alloc::Global;
 
-/// What the machine makes of some tokens: it goes on, or before their end the header is whole or its grammar is left, at
-/// this place.
-#[derive(Drop)]
-pub enum Run {
-    On(State),
-    Whole(Header),
-    Leaves(Pos),
+/// Where a reading stands in or behind the pragmas for LANGUAGE.
+#[derive(Clone, Copy)]
+pub struct Front {
+    pub cursor: Cursor,
+    /// What the pragmas say.
+    pub flags: Flags,
+    /// The place of the last lexeme; 1:1 before the first.
+    pub last: Pos,
 }
 
-/// What is known of a header between two lexemes.
+/// What was read behind these pragmas.
 #[derive(Drop)]
 pub struct Progress {
-    /// Whether no lexeme was read but pragmas for LANGUAGE.
-    pub front: bool,
-    /// The place of the last lexeme, pragmas among them; 1:1 before the first.
-    pub last: Pos,
-    pub layout: Layout,
-    pub flags: Flags,
-    pub state: State,
-}
-
-/// What a lexeme does: the header goes on, or it is whole.
-#[derive(Drop)]
-pub enum Next {
-    On(Progress),
-    Whole(Header),
-}
-
-/// A reading: where it stands, and what is known there.
-#[derive(Drop)]
-pub struct Reader {
     pub cursor: Cursor,
-    pub known: Progress,
+    pub layout: Layout,
+    /// The lexemes with the signs that layout puts before each.
+    pub tokens: TokenList<Token>,
+    pub stage: Stage,
+    /// The place of the last lexeme; 1:1 before the first.
+    pub last: Pos,
 }
 
-/// What reading one lexeme comes to.
+/// Why the reading of lexemes ends.
+#[derive(Clone, Copy)]
+pub enum Ending {
+    /// The input ends.
+    Input,
+    /// No lexeme begins at this place.
+    Bad(Pos),
+    /// What follows the imports, or that there is no header, is told by the lexemes so far.
+    Decided,
+}
+
+/// The tokens by which the header is decided.
 #[derive(Drop)]
-pub enum Step {
-    On(Reader),
-    Done(Header),
+pub struct Gathered {
+    pub tokens: TokenList<Token>,
+    pub ending: Ending,
+    /// The place of the last lexeme; 1:1 where there is none.
+    pub last: Pos,
 }
 
-/// The machine over some tokens.
-fn steps(alloc: Global, state: State, tokens: &[Token]) -> Result<Run, NoMemory>
-    ensures { IfOk result (λ r. r ≡ steps state tokens.now) }
+fn is_pragma(token: &Token) -> bool
+    ensures { result ≡ braced.is_pragma token.now.kind }
 {
-    let mut here = state;
-    for token in tokens {
-        match step(alloc, here, token) {
-            Ok(Turn::On(next)) => here = next,
-            Ok(Turn::Whole(header)) => return Ok(Run::Whole(header)),
-            Ok(Turn::Leaves) => return Ok(Run::Leaves(token.at)),
+    match token.kind {
+        TokenKind::Pragma => true,
+        _ => false,
+    }
+}
+
+/// Over one pragma in front; None where another lexeme, a bad place or the end of the input follows.
+fn over_pragma(alloc: Global, source: &[u8], front: Front) -> Result<Option<Front>, HeaderErr>
+    requires size { length source.now ≤ 1048576 }
+    requires reached { IsReached source.now front.cursor }
+    ensures { MatchResult result (λ o. IsPassed source.now front o) (λ e. IsFault (rest_in_front source.now front) e) }
+{
+    match read(alloc, source, front.cursor) {
+        Ok(Some((token, behind))) => {
+            if !is_pragma(&token) {
+                return Ok(None);
+            }
+            match flags_of(alloc, front.flags, &token) {
+                Err(error) => Err(error),
+                Ok(flags) => Ok(Some(Front {
+                    cursor: behind,
+                    flags,
+                    last: token.at,
+                })),
+            }
+        }
+        Ok(None) => Ok(None),
+        Err(LexErr::NoLexeme(_)) => Ok(None),
+        Err(LexErr::NoMemory) => Err(HeaderErr::NoMemory),
+    }
+}
+
+/// Over the pragmas in front.
+fn over_pragmas(alloc: Global, source: &[u8], front: Front) -> Result<Front, HeaderErr>
+    requires size { length source.now ≤ 1048576 }
+    requires reached { IsReached source.now front.cursor }
+    ensures { MatchResult result (λ k. IsReached source.now k.cursor × (rest_of source.now k ≡ rest_in_front source.now front)) (λ e. IsFault (rest_in_front source.now front) e) }
+{
+    let mut here = front;
+    loop {
+        match over_pragma(alloc, source, here) {
             Err(error) => return Err(error),
+            Ok(None) => return Ok(here),
+            Ok(Some(next)) => here = next,
         }
     }
-    Ok(Run::On(here))
+}
+
+/// Puts a lexeme, with the signs before it, behind the tokens.
+fn take(alloc: Global, token: &Token, known: &mut Progress) -> Result<(), NoMemory>
+    ensures { OnOk result (known.new ≡ with_lexeme known.old token.now) }
+{
+    let from = known.tokens.len();
+    take_token(alloc, token, &mut known.layout, &mut known.tokens)?;
+    known.stage = behind(known.stage, &known.tokens.as_slice()[from..]);
+    known.last = token.at;
+    Ok(())
+}
+
+/// Reads one lexeme; answers why the reading ends, where it does.
+fn turn(alloc: Global, source: &[u8], known: &mut Progress) -> Result<Option<Ending>, NoMemory>
+    requires size { length source.now ≤ 1048576 }
+    requires reached { IsReached source.now known.old.cursor }
+    ensures { IfOk result (λ o. IsTurned source.now known.old o known.new) }
+{
+    match read(alloc, source, known.cursor) {
+        Ok(Some((token, behind))) => {
+            take(alloc, &token, known)?;
+            known.cursor = behind;
+            if is_over(known.stage) {
+                Ok(Some(Ending::Decided))
+            } else {
+                Ok(None)
+            }
+        }
+        Ok(None) => Ok(Some(Ending::Input)),
+        Err(LexErr::NoLexeme(at)) => Ok(Some(Ending::Bad(at))),
+        Err(LexErr::NoMemory) => Err(NoMemory),
+    }
+}
+
+/// The tokens where the reading of lexemes has ended.
+fn ended(alloc: Global, known: Progress, ending: Ending) -> Result<Gathered, NoMemory>
+    ensures { IfOk result (λ g. IsEnded known ending g) }
+{
+    let Progress {
+        cursor: _,
+        layout,
+        mut tokens,
+        stage: _,
+        last,
+    } = known;
+    match ending {
+        Ending::Input => finish(alloc, layout, &mut tokens)?,
+        _ => {}
+    }
+    Ok(Gathered {
+        tokens,
+        ending,
+        last,
+    })
+}
+
+/// The tokens from a cursor on by which the header is decided.
+fn gather(alloc: Global, source: &[u8], front: Front) -> Result<Gathered, NoMemory>
+    requires size { length source.now ≤ 1048576 }
+    requires reached { IsReached source.now front.cursor }
+    ensures { IfOk result (λ g. IsGathered front.last (lexemes_from source.now front.cursor) g) }
+{
+    let mut known = Progress {
+        cursor: front.cursor,
+        layout: start_layout(alloc)?,
+        tokens: TokenList::new(alloc),
+        stage: Stage::Line,
+        last: front.last,
+    };
+    loop {
+        if let Some(ending) = turn(alloc, source, &mut known)? {
+            return ended(alloc, known, ending);
+        }
+    }
 }
 
 /// The header with what the pragmas say.
 fn flagged(header: Header, flags: Flags) -> Header
-    ensures { result ≡ flagged header flags }
+    ensures { result ≡ spec.flagged header flags }
 {
     let mut header = header;
     header.prelude = flags.prelude;
@@ -90,191 +201,77 @@ fn flagged(header: Header, flags: Flags) -> Header
     header
 }
 
-/// Before the first lexeme.
-fn start(alloc: Global) -> Result<Progress, NoMemory>
-    ensures { IfOk result (λ k. k ≡ start) }
+/// A header that was read with these tokens behind it.
+fn whole(
+    header: Header,
+    flags: Flags,
+    ending: Ending,
+    behind: &[Token],
+) -> Result<Header, HeaderErr>
+    ensures { MatchResult result (λ h. whole (bad_at ending) behind.now (spec.flagged header flags) ≡ Ok h) (λ e. IsFault (whole (bad_at ending) behind.now (spec.flagged header flags)) e) }
 {
-    let layout = start_layout(alloc)?;
-    let state = start_machine(alloc)?;
-    Ok(Progress {
-        front: true,
-        last: Pos { line: 1, col: 1 },
-        layout,
+    match ending {
+        Ending::Bad(at) => {
+            if behind.is_empty() {
+                Err(HeaderErr::Lexeme(at))
+            } else {
+                Ok(flagged(header, flags))
+            }
+        }
+        _ => Ok(flagged(header, flags)),
+    }
+}
+
+/// Where the tokens end too early.
+fn cut(ending: Ending, last: Pos) -> HeaderErr
+    ensures { IsFault (cut (bad_at ending) last) result }
+{
+    match ending {
+        Ending::Bad(at) => HeaderErr::Lexeme(at),
+        _ => HeaderErr::Grammar(last),
+    }
+}
+
+/// The header of the tokens that were gathered.
+fn conclude(alloc: Global, flags: Flags, gathered: &Gathered) -> Result<Header, HeaderErr>
+    ensures { MatchResult result (λ h. conclusion flags gathered.now ≡ Ok h) (λ e. IsFault (conclusion flags gathered.now) e) }
+{
+    match read_tokens(alloc, gathered.tokens.as_slice()) {
+        Ok(Ok((header, behind))) => whole(header, flags, gathered.ending, behind),
+        Ok(Err(Stop::At(at))) => Err(HeaderErr::Grammar(at)),
+        Ok(Err(Stop::End)) => Err(cut(gathered.ending, gathered.last)),
+        Err(_) => Err(HeaderErr::NoMemory),
+    }
+}
+
+/// The header behind the pragmas in front.
+fn behind_front(alloc: Global, source: &[u8], front: Front) -> Result<Header, HeaderErr>
+    requires size { length source.now ≤ 1048576 }
+    requires reached { IsReached source.now front.cursor }
+    ensures { MatchResult result (λ h. rest_of source.now front ≡ Ok h) (λ e. IsFault (rest_of source.now front) e) }
+{
+    match gather(alloc, source, front) {
+        Ok(gathered) => conclude(alloc, front.flags, &gathered),
+        Err(_) => Err(HeaderErr::NoMemory),
+    }
+}
+
+/// The header of a source, as the function of it.
+fn header_in(alloc: Global, source: &[u8]) -> Result<Header, HeaderErr>
+    requires { length source.now ≤ 1048576 }
+    ensures { MatchResult result (λ h. header_of source.now ≡ Ok h) (λ e. IsFault (header_of source.now) e) }
+{
+    let front = Front {
+        cursor: start_cursor(source),
         flags: Flags {
             prelude: None,
             restrict: None,
         },
-        state,
-    })
-}
-
-fn is_language(known: &Progress, token: &Token) -> bool
-    ensures { result ≡ is_language known.now token.now }
-{
-    match token.kind {
-        TokenKind::Pragma => known.front,
-        _ => false,
-    }
-}
-
-/// Over a pragma for LANGUAGE.
-fn over_language(alloc: Global, known: Progress, token: &Token) -> Result<Next, HeaderErr>
-    requires line { token.now.at.line + length token.now.text + 1 < 2 ^ 32 }
-    requires column { token.now.at.col + 8 * length token.now.text + 8 < 2 ^ 32 }
-    ensures { MatchResult result (λ n. by_flags known token.now (flags_of known.flags token.now) ≡ Ok n) (λ e. IsFault (by_flags known token.now (flags_of known.flags token.now)) e) }
-{
-    match flags_of(alloc, known.flags, token) {
-        Ok(flags) => {
-            let mut known = known;
-            known.last = token.at;
-            known.flags = flags;
-            Ok(Next::On(known))
-        }
+        last: Pos { line: 1, col: 1 },
+    };
+    match over_pragmas(alloc, source, front) {
+        Ok(front) => behind_front(alloc, source, front),
         Err(error) => Err(error),
-    }
-}
-
-/// Over any other lexeme, with the signs that layout puts before it.
-fn over_pieces(alloc: Global, known: Progress, token: &Token) -> Result<Next, HeaderErr>
-    ensures { MatchResult result (λ n. by_run known token.now (steps known.state (pieces known.layout token.now)) ≡ Ok n) (λ e. IsFault (by_run known token.now (steps known.state (pieces known.layout token.now))) e) }
-{
-    let Progress {
-        front: _,
-        last: _,
-        mut layout,
-        flags,
-        state,
-    } = known;
-    let mut pieces = TokenList::new(alloc);
-    if take_token(alloc, token, &mut layout, &mut pieces).is_err() {
-        return Err(HeaderErr::NoMemory);
-    }
-    match steps(alloc, state, pieces.as_slice()) {
-        Ok(Run::On(state)) => Ok(Next::On(Progress {
-            front: false,
-            last: token.at,
-            layout,
-            flags,
-            state,
-        })),
-        Ok(Run::Whole(header)) => Ok(Next::Whole(flagged(header, flags))),
-        Ok(Run::Leaves(at)) => Err(HeaderErr::Grammar(at)),
-        Err(_) => Err(HeaderErr::NoMemory),
-    }
-}
-
-/// Over a lexeme.
-#[tactic(auto, unfolding(crate::specs::Reading::over))]
-fn over(alloc: Global, known: Progress, token: &Token) -> Result<Next, HeaderErr>
-    requires line { token.now.at.line + length token.now.text + 1 < 2 ^ 32 }
-    requires column { token.now.at.col + 8 * length token.now.text + 8 < 2 ^ 32 }
-    ensures { MatchResult result (λ n. over known token.now ≡ Ok n) (λ e. IsFault (over known token.now) e) }
-{
-    if is_language(&known, token) {
-        return over_language(alloc, known, token);
-    }
-    over_pieces(alloc, known, token)
-}
-
-/// Where the input ends behind the machine's last state; `last` is the place of the last lexeme.
-fn whole_or(alloc: Global, state: State, flags: Flags, last: Pos) -> Result<Header, HeaderErr>
-    ensures { MatchResult result (λ h. by_ended flags last (ended state) ≡ Ok h) (λ e. IsFault (by_ended flags last (ended state)) e) }
-{
-    match ended(alloc, state) {
-        Ok(Some(header)) => Ok(flagged(header, flags)),
-        Ok(None) => Err(HeaderErr::Grammar(last)),
-        Err(_) => Err(HeaderErr::NoMemory),
-    }
-}
-
-/// At the end of the input.
-#[tactic(auto, unfolding(crate::specs::Reading::at_last))]
-fn at_last(alloc: Global, known: Progress) -> Result<Header, HeaderErr>
-    ensures { MatchResult result (λ h. at_last known ≡ Ok h) (λ e. IsFault (at_last known) e) }
-{
-    let Progress {
-        front: _,
-        last,
-        layout,
-        flags,
-        state,
-    } = known;
-    let mut signs = TokenList::new(alloc);
-    if finish(alloc, layout, &mut signs).is_err() {
-        return Err(HeaderErr::NoMemory);
-    }
-    match steps(alloc, state, signs.as_slice()) {
-        Ok(Run::On(state)) => whole_or(alloc, state, flags, last),
-        Ok(Run::Whole(header)) => Ok(flagged(header, flags)),
-        Ok(Run::Leaves(_)) => Err(HeaderErr::Grammar(last)),
-        Err(_) => Err(HeaderErr::NoMemory),
-    }
-}
-
-/// Over the lexeme before `behind`.
-fn over_token(
-    alloc: Global,
-    source: &[u8],
-    reader: Reader,
-    token: &Token,
-    behind: Cursor,
-) -> Result<Step, HeaderErr>
-    requires size { length source.now ≤ 1048576 }
-    requires reached { IsReached source.now reader.cursor }
-    requires next { IsNext source.now reader.cursor token.now behind }
-    requires behind { IsReached source.now behind }
-    ensures { MatchResult result (λ s. IsStep source.now reader s) (λ e. IsFault (rest_of source.now reader) e) }
-{
-    let Reader { cursor: _, known } = reader;
-    match over(alloc, known, token) {
-        Ok(Next::On(known)) => Ok(Step::On(Reader {
-            cursor: behind,
-            known,
-        })),
-        Ok(Next::Whole(header)) => Ok(Step::Done(header)),
-        Err(error) => Err(error),
-    }
-}
-
-/// The end of the input.
-fn over_end(alloc: Global, source: &[u8], reader: Reader) -> Result<Step, HeaderErr>
-    requires { IsBlank source.now reader.cursor }
-    ensures { MatchResult result (λ s. IsStep source.now reader s) (λ e. IsFault (rest_of source.now reader) e) }
-{
-    let Reader { cursor: _, known } = reader;
-    match at_last(alloc, known) {
-        Ok(header) => Ok(Step::Done(header)),
-        Err(error) => Err(error),
-    }
-}
-
-/// Reads one lexeme.
-fn turn(alloc: Global, source: &[u8], reader: Reader) -> Result<Step, HeaderErr>
-    requires size { length source.now ≤ 1048576 }
-    requires reached { IsReached source.now reader.cursor }
-    ensures { MatchResult result (λ s. IsStep source.now reader s) (λ e. IsFault (rest_of source.now reader) e) }
-{
-    match read(alloc, source, reader.cursor) {
-        Ok(Some((token, behind))) => over_token(alloc, source, reader, &token, behind),
-        Ok(None) => over_end(alloc, source, reader),
-        Err(LexErr::NoLexeme(at)) => Err(HeaderErr::Lexeme(at)),
-        Err(LexErr::NoMemory) => Err(HeaderErr::NoMemory),
-    }
-}
-
-/// The header from a reader on.
-fn read_on(alloc: Global, source: &[u8], reader: Reader) -> Result<Header, HeaderErr>
-    requires size { length source.now ≤ 1048576 }
-    requires reached { IsReached source.now reader.cursor }
-    ensures { MatchResult result (λ h. rest_of source.now reader ≡ Ok h) (λ e. IsFault (rest_of source.now reader) e) }
-{
-    let mut here = reader;
-    loop {
-        match turn(alloc, source, here) {
-            Ok(Step::On(next)) => here = next,
-            Ok(Step::Done(header)) => return Ok(header),
-            Err(error) => return Err(error),
-        }
     }
 }
 
@@ -285,20 +282,10 @@ fn read_on(alloc: Global, source: &[u8], reader: Reader) -> Result<Header, Heade
 /// the header's grammar is left; an extension that isn't known; want of memory.
 pub fn read_header(alloc: Global, source: &[u8]) -> Result<Header, HeaderErr>
     requires { length source.now ≤ 1048576 }
-    ensures ok { IfOk result (λ h. header_of source.now ≡ Ok h) }
-    ensures lexeme { (at : Pos) → result ≡ Err (HeaderErr.Lexeme at) → header_of source.now ≡ Err (Lexeme at) }
-    ensures grammar { (at : Pos) → result ≡ Err (HeaderErr.Grammar at) → header_of source.now ≡ Err (Grammar at) }
-    ensures unknown { (at : Pos) (name : List ℕ) → result ≡ Err (HeaderErr.Extension at name) → header_of source.now ≡ Err (Unknown at name) }
+    ensures ok { IfOk result (λ h. IsHeaderOf source.now h) }
+    ensures lexeme { (at : Pos) → result ≡ Err (HeaderErr.Lexeme at) → IsBadAt source.now at }
+    ensures grammar { (at : Pos) → result ≡ Err (HeaderErr.Grammar at) → IsNoneAt source.now at }
+    ensures unknown { (at : Pos) (name : List ℕ) → result ≡ Err (HeaderErr.Extension at name) → IsUnknownAt source.now at name }
 {
-    match start(alloc) {
-        Ok(known) => read_on(
-            alloc,
-            source,
-            Reader {
-                cursor: start_cursor(source),
-                known,
-            },
-        ),
-        Err(_) => Err(HeaderErr::NoMemory),
-    }
+    header_in(alloc, source)
 }

@@ -1,288 +1,134 @@
 //! Types and classes in a list, and what is told of their parts (Haskell 2010 Report, sections 5.2 and 5.3).
-ghost use Rattle.std.specs.Prelude.{◌≡◌, ◌++◌, ◌∷◌, [], IfOk};
-ghost use Rattle.hs_header.specs.Machine as spec;
-ghost use Rattle.hs_header.specs.Names as names;
-ghost use Rattle.hs_header.specs.declared.state.Stage.TheVariants as stage;
-ghost use Rattle.hs_syntax.specs.declared.header.SubTree.TheVariants as subtree;
+ghost use Rattle.std.specs.Prelude.{◌≡◌, [], ◌∷◌, IfOk};
+ghost use Rattle.hs_header.specs.Readers.{seen};
+ghost use Rattle.hs_header.specs.Readers as spec;
+ghost use Rattle.hs_syntax.specs.Signs as signs;
 
-use crate::exports::at_export_read;
-use crate::items::{at_item_read, whole_item};
-use crate::name::name_ref;
-use crate::parts::{goes, leaves, with_export, with_item, with_sub};
-use crate::state::{Former, Known, Stage, Turn};
-use crate::terminal::Terminal;
-use hs_syntax::header::{ExportItem, IitemTree, SubTree, Subs};
+use crate::expected::{Found, Stop, Wanted, enclosed, expected};
+use hs_syntax::header::{SubTree, Subs};
+use hs_syntax::parted::name_ref;
+use hs_syntax::sign::{Sign, first_of, sign_of};
 use hs_syntax::token::Token;
 use mk_base::list::List;
 use mk_base::memory::NoMemory;
 use mk_base::place::Pos;
 use std::alloc::Global;
 
-/// Behind a type or class with its parts.
-fn whole_former(
-    alloc: Global,
-    known: Known,
-    former: Former,
-    told: Option<Subs>,
-) -> Result<Turn, NoMemory>
-    ensures { IfOk result (λ turn. turn ≡ spec.whole_former known former told former.import) }
-{
-    let Former { at, name, import } = former;
-    match import {
-        None => {
-            let item = ExportItem::Type {
-                at,
-                name,
-                subs: told,
-            };
-            let known = with_export(alloc, known, item)?;
-            Ok(goes(known, Stage::ExportRead))
-        }
-        Some(import) => {
-            let item = IitemTree::Type {
-                at,
-                name,
-                subs: told,
-            };
-            whole_item(alloc, known, import, item)
-        }
-    }
-}
-
-/// Behind a type or class without parts.
-fn behind_former(
-    alloc: Global,
-    known: Known,
-    former: Former,
-    terminal: Terminal,
-) -> Result<Turn, NoMemory>
-    ensures { IfOk result (λ turn. turn ≡ spec.behind_former known former former.import terminal) }
-{
-    let Former { at, name, import } = former;
-    match import {
-        None => {
-            let item = ExportItem::Type {
-                at,
-                name,
-                subs: None,
-            };
-            Ok(at_export_read(with_export(alloc, known, item)?, terminal))
-        }
-        Some(import) => {
-            let item = IitemTree::Type {
-                at,
-                name,
-                subs: None,
-            };
-            Ok(at_item_read(known, with_item(alloc, import, item)?, terminal))
-        }
-    }
-}
-
-/// Behind the name of a type or class.
-pub fn at_former_read(
-    alloc: Global,
-    known: Known,
-    former: Former,
-    terminal: Terminal,
-) -> Result<Turn, NoMemory>
-    ensures { IfOk result (λ turn. turn ≡ spec.at_former_read known former terminal) }
-{
-    match terminal {
-        Terminal::OpenParen => Ok(goes(known, Stage::SubFirst(former))),
-        _ => behind_former(alloc, known, former, terminal),
-    }
-}
-
-/// Behind a part.
-fn whole_sub(
-    known: Known,
-    former: Former,
-    subs: List<SubTree>,
-    sub: SubTree,
-) -> Result<Turn, NoMemory>
-    ensures { IfOk result (λ turn. turn ≡ spec.goes known (stage.SubRead former (subs ++ sub ∷ []))) }
-{
-    let subs = with_sub(subs, sub)?;
-    Ok(goes(known, Stage::SubRead(former, subs)))
-}
-
-/// The variable that a token names, as a part.
-fn var_part(alloc: Global, at: Pos, token: &Token) -> Result<SubTree, NoMemory>
-    ensures { IfOk result (λ s. s ≡ subtree.Var at (names.name_ref token.now)) }
+/// The part that an operator names, of an item at a place.
+fn sub_named(alloc: Global, at: Pos, token: &Token) -> Result<SubTree, NoMemory>
+    ensures { IfOk result (λ s. s ≡ spec.sub_named at token.now (signs.sign_of token.now)) }
 {
     let name = name_ref(alloc, token)?;
-    Ok(SubTree::Var { at, name })
+    Ok(match sign_of(token) {
+        Sign::ConSym => SubTree::Con { at, name },
+        _ => SubTree::Var { at, name },
+    })
 }
 
-/// The constructor that a token names, as a part.
-fn con_part(alloc: Global, at: Pos, token: &Token) -> Result<SubTree, NoMemory>
-    ensures { IfOk result (λ s. s ≡ subtree.Con at (names.name_ref token.now)) }
+/// A part.
+#[tactic(auto, unfolding(crate::specs::Readers::sub_at))]
+fn sub<'a>(alloc: Global, tokens: &'a [Token]) -> Found<'a, SubTree>
+    ensures { IfOk result (λ r. seen r ≡ spec.sub_at tokens.now) }
 {
-    let name = name_ref(alloc, token)?;
-    Ok(SubTree::Con { at, name })
-}
-
-/// Behind a variable.
-fn with_var(
-    alloc: Global,
-    known: Known,
-    former: Former,
-    subs: List<SubTree>,
-    token: &Token,
-) -> Result<Turn, NoMemory>
-    ensures { IfOk result (λ turn. turn ≡ spec.goes known (stage.SubRead former (subs ++ subtree.Var token.now.at (names.name_ref token.now) ∷ []))) }
-{
-    let part = var_part(alloc, token.at, token)?;
-    whole_sub(known, former, subs, part)
-}
-
-/// Behind a constructor.
-fn with_con(
-    alloc: Global,
-    known: Known,
-    former: Former,
-    subs: List<SubTree>,
-    token: &Token,
-) -> Result<Turn, NoMemory>
-    ensures { IfOk result (λ turn. turn ≡ spec.at_sub known former subs Terminal.Con token.now) }
-{
-    let part = con_part(alloc, token.at, token)?;
-    whole_sub(known, former, subs, part)
-}
-
-/// Where a part begins.
-pub fn at_sub(
-    alloc: Global,
-    known: Known,
-    former: Former,
-    subs: List<SubTree>,
-    terminal: Terminal,
-    token: &Token,
-) -> Result<Turn, NoMemory>
-    ensures { IfOk result (λ turn. turn ≡ spec.at_sub known former subs terminal token.now) }
-{
-    match terminal {
-        Terminal::OpenParen => Ok(goes(known, Stage::SubOperator(former, subs, token.at))),
-        Terminal::Var(_) => with_var(alloc, known, former, subs, token),
-        Terminal::Con => with_con(alloc, known, former, subs, token),
-        _ => Ok(leaves(known, Stage::SubRead(former, subs))),
-    }
-}
-
-/// Behind the opening parenthesis of the parts.
-pub fn at_sub_first(
-    alloc: Global,
-    known: Known,
-    former: Former,
-    terminal: Terminal,
-    token: &Token,
-) -> Result<Turn, NoMemory>
-    ensures { IfOk result (λ turn. turn ≡ spec.at_sub_first known former terminal token.now) }
-{
-    match terminal {
-        Terminal::CloseParen => {
-            let told = Some(Subs::Listed(List::new(alloc)));
-            whole_former(alloc, known, former, told)
+    let Some(first) = first_of(tokens) else {
+        return Ok(Err(Stop::End));
+    };
+    let at = first.token.at;
+    match first.sign {
+        Sign::Var => {
+            let name = name_ref(alloc, first.token)?;
+            Ok(Ok((SubTree::Var { at, name }, first.rest)))
         }
-        Terminal::Dots => Ok(goes(known, Stage::SubsAll(former))),
-        _ => at_sub(alloc, known, former, List::new(alloc), terminal, token),
+        Sign::Con => {
+            let name = name_ref(alloc, first.token)?;
+            Ok(Ok((SubTree::Con { at, name }, first.rest)))
+        }
+        Sign::OpenParen => match enclosed(Wanted::Symbol, first.rest) {
+            Err(stop) => Ok(Err(stop)),
+            Ok((token, behind)) => Ok(Ok((sub_named(alloc, at, token)?, behind))),
+        },
+        _ => Ok(Err(Stop::At(at))),
     }
 }
 
-/// Behind an operator of a variable's name, the closing parenthesis not read yet.
-fn with_var_operator(
+/// The parts behind one, up to the closing parenthesis.
+#[tactic(auto, using(crate::proofs::Steps::more_subs_step, crate::proofs::Steps::more_subs_end))]
+fn more_subs<'a>(
     alloc: Global,
-    known: Known,
-    former: Former,
-    subs: List<SubTree>,
-    at: Pos,
-    token: &Token,
-) -> Result<Turn, NoMemory>
-    ensures { IfOk result (λ turn. turn ≡ spec.at_sub_operator known former subs at Terminal.VarOperator token.now) }
+    left: usize,
+    first: SubTree,
+    tokens: &'a [Token],
+) -> Found<'a, List<SubTree>>
+    ensures { IfOk result (λ r. seen r ≡ spec.more_subs left (first ∷ []) tokens.now) }
 {
-    let part = var_part(alloc, at, token)?;
-    Ok(goes(known, Stage::SubClose(former, subs, part)))
+    let mut parts = List::new(alloc);
+    parts.push(first)?;
+    let mut left = left;
+    let mut rest = tokens;
+    while left > 0 {
+        left -= 1;
+        let Some(next) = first_of(rest) else {
+            return Ok(Err(Stop::End));
+        };
+        match next.sign {
+            Sign::CloseParen => return Ok(Ok((parts, next.rest))),
+            Sign::Comma => match sub(alloc, next.rest)? {
+                Err(stop) => return Ok(Err(stop)),
+                Ok((part, behind)) => {
+                    parts.push(part)?;
+                    rest = behind;
+                }
+            },
+            _ => return Ok(Err(Stop::At(next.token.at))),
+        }
+    }
+    Ok(Err(Stop::End))
 }
 
-/// Behind an operator of a constructor's name, the closing parenthesis not read yet.
-fn with_con_operator(
-    alloc: Global,
-    known: Known,
-    former: Former,
-    subs: List<SubTree>,
-    at: Pos,
-    token: &Token,
-) -> Result<Turn, NoMemory>
-    ensures { IfOk result (λ turn. turn ≡ spec.at_sub_operator known former subs at Terminal.ConOperator token.now) }
+/// Some parts, up to the closing parenthesis.
+fn some_subs<'a>(alloc: Global, left: usize, tokens: &'a [Token]) -> Found<'a, Subs>
+    ensures { IfOk result (λ r. seen r ≡ spec.some_subs left tokens.now) }
 {
-    let part = con_part(alloc, at, token)?;
-    Ok(goes(known, Stage::SubClose(former, subs, part)))
-}
-
-/// Behind a parenthesis at a place among the parts: an operator.
-pub fn at_sub_operator(
-    alloc: Global,
-    known: Known,
-    former: Former,
-    subs: List<SubTree>,
-    at: Pos,
-    terminal: Terminal,
-    token: &Token,
-) -> Result<Turn, NoMemory>
-    ensures { IfOk result (λ turn. turn ≡ spec.at_sub_operator known former subs at terminal token.now) }
-{
-    match terminal {
-        Terminal::VarOperator => with_var_operator(alloc, known, former, subs, at, token),
-        Terminal::ConOperator => with_con_operator(alloc, known, former, subs, at, token),
-        _ => Ok(leaves(known, Stage::SubRead(former, subs))),
+    match sub(alloc, tokens)? {
+        Err(stop) => Ok(Err(stop)),
+        Ok((first, rest)) => match more_subs(alloc, left, first, rest)? {
+            Err(stop) => Ok(Err(stop)),
+            Ok((parts, behind)) => Ok(Ok((Subs::Listed(parts), behind))),
+        },
     }
 }
 
-/// Behind an operator among the parts: the closing parenthesis.
-pub fn at_sub_close(
-    known: Known,
-    former: Former,
-    subs: List<SubTree>,
-    sub: SubTree,
-    terminal: Terminal,
-) -> Result<Turn, NoMemory>
-    ensures { IfOk result (λ turn. turn ≡ spec.at_sub_close known former subs sub terminal) }
+/// What stands behind the opening parenthesis of the parts.
+#[tactic(auto, unfolding(crate::specs::Readers::subs_at))]
+fn subs<'a>(alloc: Global, left: usize, tokens: &'a [Token]) -> Found<'a, Subs>
+    ensures { IfOk result (λ r. seen r ≡ spec.subs_at left tokens.now) }
 {
-    match terminal {
-        Terminal::CloseParen => whole_sub(known, former, subs, sub),
-        _ => Ok(leaves(known, Stage::SubClose(former, subs, sub))),
+    let Some(first) = first_of(tokens) else {
+        return Ok(Err(Stop::End));
+    };
+    match first.sign {
+        Sign::CloseParen => Ok(Ok((Subs::Listed(List::new(alloc)), first.rest))),
+        Sign::Dots => match expected(Wanted::CloseParen, first.rest) {
+            Err(stop) => Ok(Err(stop)),
+            Ok((_, behind)) => Ok(Ok((Subs::All, behind))),
+        },
+        _ => some_subs(alloc, left, tokens),
     }
 }
 
-/// Behind a part.
-pub fn at_sub_read(
-    alloc: Global,
-    known: Known,
-    former: Former,
-    subs: List<SubTree>,
-    terminal: Terminal,
-) -> Result<Turn, NoMemory>
-    ensures { IfOk result (λ turn. turn ≡ spec.at_sub_read known former subs terminal) }
+/// What is told of a type or class in parentheses behind it, if anything is.
+#[tactic(auto, unfolding(crate::specs::Readers::told_at))]
+pub fn told<'a>(alloc: Global, left: usize, tokens: &'a [Token]) -> Found<'a, Option<Subs>>
+    ensures { IfOk result (λ r. seen r ≡ spec.told_at left tokens.now) }
 {
-    match terminal {
-        Terminal::Comma => Ok(goes(known, Stage::SubNext(former, subs))),
-        Terminal::CloseParen => whole_former(alloc, known, former, Some(Subs::Listed(subs))),
-        _ => Ok(leaves(known, Stage::SubRead(former, subs))),
-    }
-}
-
-/// Behind `..` for all parts.
-pub fn at_subs_all(
-    alloc: Global,
-    known: Known,
-    former: Former,
-    terminal: Terminal,
-) -> Result<Turn, NoMemory>
-    ensures { IfOk result (λ turn. turn ≡ spec.at_subs_all known former terminal) }
-{
-    match terminal {
-        Terminal::CloseParen => whole_former(alloc, known, former, Some(Subs::All)),
-        _ => Ok(leaves(known, Stage::SubsAll(former))),
+    let Some(first) = first_of(tokens) else {
+        return Ok(Ok((None, tokens)));
+    };
+    match first.sign {
+        Sign::OpenParen => match subs(alloc, left, first.rest)? {
+            Err(stop) => Ok(Err(stop)),
+            Ok((parts, behind)) => Ok(Ok((Some(parts), behind))),
+        },
+        _ => Ok(Ok((None, tokens))),
     }
 }

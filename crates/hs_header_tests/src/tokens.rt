@@ -6,9 +6,8 @@
 //! with its column, the exports and each import. Behind `@` stands a tree's column, behind `:` that of its name, where
 //! it is another one. Where nothing is read it is `!` and the column of the token that leaves the grammar, or `!` alone
 //! where the input ends too early.
-use hs_header::law::header_is_its_spelling;
-use hs_header::state::Turn;
-use hs_header::step::{ended, start, step};
+use hs_header::header::{Stop, parse_header};
+use hs_header::law::header_is_told;
 use hs_syntax::header::{ExportItem, Header, IitemTree, ImportItem, SubTree, Subs};
 use hs_syntax::name_ref::NameRef;
 use hs_syntax::token::{PutSign, Token, TokenKind};
@@ -322,34 +321,27 @@ fn show_header(out: &mut List<u8>, header: &Header) -> Result<(), NoMemory> {
 }
 
 /// What is read where the reading stops at a token.
-fn show_end(alloc: Global, mark: u8, at: Pos) -> Result<List<u8>, NoMemory> {
-    let mut out = List::new(alloc);
+fn show_end(out: &mut List<u8>, mark: u8, behind: &[Token]) -> Result<(), NoMemory> {
     out.push(mark)?;
-    out.push_number(u64::from(at.col))?;
-    Ok(out)
+    match behind {
+        [] => Ok(()),
+        [token, ..] => out.push_number(u64::from(token.at.col)),
+    }
 }
 
 /// What is read of the tokens, as a row shows it.
 fn shown(alloc: Global, tokens: &[Token]) -> Result<List<u8>, NoMemory> {
-    let mut state = start(alloc)?;
-    for token in tokens {
-        match step(alloc, state, token)? {
-            Turn::On(next) => state = next,
-            Turn::Whole(header) => {
-                let mut out = show_end(alloc, b'=', token.at)?;
-                show_header(&mut out, &header)?;
-                return Ok(out);
-            }
-            Turn::Leaves => return show_end(alloc, b'!', token.at),
-        }
-    }
     let mut out = List::new(alloc);
-    match ended(alloc, state)? {
-        None => out.push(b'!')?,
-        Some(header) => {
-            out.push(b'=')?;
+    match parse_header(alloc, tokens)? {
+        Ok((header, behind)) => {
+            show_end(&mut out, b'=', behind)?;
             show_header(&mut out, &header)?;
         }
+        Err(Stop::At(at)) => {
+            out.push(b'!')?;
+            out.push_number(u64::from(at.col))?;
+        }
+        Err(Stop::End) => out.push(b'!')?,
     }
     Ok(out)
 }
@@ -377,7 +369,7 @@ fn headers(rt: HostRuntime) -> Result<(), Fail> {
             assert!(rt; is_read(rt.alloc(), row)?, "{row:?}");
         }
     }
-    header_is_its_spelling();
+    header_is_told();
     Ok(())
 }
 

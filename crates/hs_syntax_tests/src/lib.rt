@@ -2,6 +2,8 @@
 #![tactic(auto)]
 
 #[cfg(test)]
+mod signs;
+#[cfg(test)]
 mod tokens;
 #[cfg(test)]
 mod trees;

@@ -19,7 +19,7 @@ use Rattle.mod_graph.specs.Errors.{put_by, put_in, in_order, alone_errors, impor
 use Rattle.package_graph.specs.declared.modules.PackageModule.{PackageModule}
 use Rattle.mod_graph.specs.declared.entries.Entry.{Entry}
 use Rattle.package_graph.proofs.Members.{here, later, nothing_in, first_or_later}
-use Rattle.mod_graph.specs.Laws.{AreInOrder}
+use Rattle.mk_base.specs.Order.{AreInOrder}
 
 pos_total : IsTotalOrder pos_cmp
 pos_total = then_total (on_total (λ (p : Pos). p.line) nat_cmp_total) (on_total (λ (p : Pos). p.col) nat_cmp_total)

@@ -18,7 +18,7 @@ use Rattle.mod_graph.specs.Errors.{Found, InTree, InPackage, InPrim, Nowhere, no
 use Rattle.mod_graph.specs.Names.{same_node, node_named}
 use Rattle.package_graph.specs.Packages.{least_faulty, is_damaged, is_dangling}
 use Rattle.mod_graph.specs.Places.{AreNumbers}
-use Rattle.mod_graph.specs.Prelude.{first_place}
+use Rattle.mk_base.specs.Places.{first_place}
 use Rattle.mod_graph.specs.Rows.{AreRows}
 use Rattle.package_graph.specs.Tables.{AreTables}
 use Rattle.mod_graph.specs.Told.{has_in, name_in, told_in_tree, told_source, told_faults, told_at, told_import, told_imports, told_alone, back_in, told_cycle_at, told_own_boot_at, told_own_boot, told_cycle}

@@ -12,7 +12,7 @@ use Rattle.std.proofs.lemmas.List.Sorted.{Contains-permutation, IsPermutation-sy
 use Rattle.mk_base.specs.Order.{diag_cmp}
 use Rattle.mk_base.specs.declared.diag.Diag.{Diag}
 use Rattle.mod_graph.specs.Errors.{in_order}
-use Rattle.mod_graph.specs.Laws.{AreInOrder}
+use Rattle.mk_base.specs.Order.{AreInOrder}
 use Rattle.mod_graph.proofs.InOrder.{diag_total, same_diag, in_order_rises, in_order_keeps, in_order_makes_none, one_in_order}
 use Rattle.numbered_nodes.proofs.Below.{same_tests}
 

@@ -7,7 +7,8 @@ use Rattle.hs_syntax.specs.declared.header.ImportItem.{ImportItem}
 use Rattle.mod_graph.specs.declared.input.HeaderOf.{HeaderOf}
 use Rattle.mod_graph.specs.declared.entries.Entry.{Entry}
 use Rattle.mod_graph.specs.Names.{same_text, less_node}
-use Rattle.mod_graph.specs.Prelude.{first_place, with_prelude}
+use Rattle.mk_base.specs.Places.{first_place}
+use Rattle.mod_graph.specs.Prelude.{with_prelude}
 
 abbrev pub diag_at : Pos → ℕ → List ℕ → Diag
 diag_at at code text = record { at = at; code = code; text = text }

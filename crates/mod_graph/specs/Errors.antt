@@ -10,7 +10,7 @@ use Rattle.mk_base.specs.declared.diag.Diag.{Diag}
 use Rattle.hs_syntax.specs.declared.header.ImportItem.{ImportItem}
 use Rattle.package_graph.specs.declared.modules.PackageModule.{PackageModule}
 use Rattle.mod_graph.specs.declared.entries.Entry.{Entry}
-use Rattle.mod_graph.specs.Prelude.{first_place}
+use Rattle.mk_base.specs.Places.{first_place}
 use Rattle.mod_graph.specs.Names.{same_text, node_named}
 use Rattle.mod_graph.specs.Entries.{diag_at}
 use Rattle.mod_graph.specs.Edges.{number_of, module_number, target, reaches}

@@ -1,9 +1,8 @@
 -- What holds of the order and of the needs of a tree's nodes.
 use Rattle.std.specs.Prelude.{◌≡◌, ◌<◌, ℕ, Bool, true, false, List, [], ◌∷◌, slice_get, Some}
 use Rattle.std.specs.Prelude.{◌↔◌}
-use Rattle.std.specs.List.{AllByRecursion, Contains}
-use Rattle.std.specs.declared.cmp.Ordering.TheVariants.{Less}
-use Rattle.mk_base.specs.Order.{diag_cmp}
+use Rattle.std.specs.List.{Contains}
+use Rattle.mk_base.specs.Order.{AreInOrder}
 use Rattle.mk_base.specs.declared.name.Node.{Node}
 use Rattle.mk_base.specs.declared.diag.Diag.{Diag}
 use Rattle.package_graph.specs.declared.modules.PackageModule.{PackageModule}
@@ -37,11 +36,6 @@ IsCycleFreeNode es n = (needs_node es n n ≡ false) × ((m : Node) → needs_no
 abbrev pub NeedsComeFirst : Type 0
 NeedsComeFirst = (prelude : Bool) (hs : List HeaderOf) → AreDistinct hs → (ns : List Node) → IsNodeOrder (entries_of prelude hs) ns
     → (j k : ℕ) (m n : Node) → slice_get ns j ≡ Some m → slice_get ns k ≡ Some n → IsCycleFreeNode (entries_of prelude hs) n → needs_node (entries_of prelude hs) n m ≡ true → j < k
-
--- each diagnostic stands before all that are behind it: by line, column, number and text, no two alike
-abbrev pub AreInOrder : List Diag → Type 0
-AreInOrder [] = Unit {0}
-AreInOrder (d ∷ ds) = AllByRecursion (λ (e : Diag). diag_cmp d e ≡ Less) ds × AreInOrder ds
 
 -- The diagnostics of a node stand in order, and putting diagnostics in order keeps each of them.
 abbrev pub ErrorsAreInOrder : Type 0

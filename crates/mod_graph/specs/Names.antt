@@ -3,7 +3,7 @@ use Rattle.std.specs.Prelude.{ℕ, Bool, ◌&&◌, cond, not, List}
 use Rattle.std.specs.Ordering.{is_lt}
 use Rattle.mk_base.specs.Order.{node_cmp}
 use Rattle.mk_base.specs.declared.name.Node.{Node}
-pub use Rattle.package_graph.specs.Names.{same_text}
+pub use Rattle.mk_base.specs.Texts.{same_text}
 
 abbrev pub same_flag : Bool → Bool → Bool
 same_flag a b = cond a b (not b)

@@ -14,7 +14,7 @@ use Rattle.mod_graph.specs.Errors.{Found, InTree, InPackage, InPrim, Nowhere, no
 use Rattle.mod_graph.specs.Found.{found_in}
 use Rattle.mod_graph.specs.Names.{same_text}
 use Rattle.mod_graph.specs.Places.{number_in}
-use Rattle.mod_graph.specs.Prelude.{first_place}
+use Rattle.mk_base.specs.Places.{first_place}
 
 abbrev pub has_in : Numbers → Bool → List ℕ → Bool
 has_in n boot m = is_some (number_in n boot m)

@@ -6,9 +6,9 @@ ghost use Rattle.numbered_nodes.specs.Reach.{InOneLoop};
 ghost use Rattle.numbered_nodes.specs.Edges.{lists, HasEdge, InRange};
 ghost use Rattle.node_groups.specs.Parted.{AreParted};
 
-use crate::finish::finish_order;
 use crate::search::search;
 use crate::turned::turned;
+use numbered_nodes::finish::finish_order;
 use std::alloc::{AllocError, Global};
 
 /// Names the loop of a node that has no name yet: of the nodes without a name that lead to it, those that it leads to

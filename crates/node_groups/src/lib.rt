@@ -4,7 +4,6 @@
 
 mod collect;
 mod components;
-mod finish;
 pub mod loops;
 mod members;
 mod order;

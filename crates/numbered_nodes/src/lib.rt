@@ -2,7 +2,7 @@
 #![tactic(auto)]
 
 pub mod edges;
-mod finish;
+pub mod finish;
 pub mod loops;
 pub mod needs;
 pub mod order;

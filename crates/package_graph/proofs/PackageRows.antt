@@ -18,7 +18,7 @@ use Rattle.mk_base.specs.declared.name.ModName.{ModName}
 use Rattle.numbered_nodes.proofs.Below.{is_at_is, same_tests}
 use Rattle.package_graph.specs.declared.modules.PackageModule.{PackageModule}
 use Rattle.numbered_nodes.specs.Chains.{AreBelow, IsStep, over, is_at}
-use Rattle.package_graph.specs.Names.{same_text}
+use Rattle.mk_base.specs.Texts.{same_text}
 use Rattle.package_graph.specs.Packages.{first_package, in_package, led_to, package_leads, has_package}
 use Rattle.package_graph.specs.declared.tables.Home.{Home}
 use Rattle.package_graph.specs.Targets.{home_in, one_place, package_targets, targets_in}

@@ -1,4 +1,3 @@
-pub mod Names
 pub mod Packages
 pub mod Targets
 pub mod Tables

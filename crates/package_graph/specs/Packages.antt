@@ -8,7 +8,7 @@ use Rattle.mk_base.specs.declared.name.ModName.{ModName}
 use Rattle.package_graph.specs.declared.modules.PackageModule.{PackageModule}
 use Rattle.package_graph.specs.declared.modules.PackageState.{PackageState}
 use Rattle.package_graph.specs.declared.modules.PackageState.TheVariants.{Damaged, Dangling}
-use Rattle.package_graph.specs.Names.{same_text}
+use Rattle.mk_base.specs.Texts.{same_text}
 use Rattle.numbered_nodes.specs.Chains.{is_at, over}
 
 abbrev pub is_damaged : PackageState → Bool

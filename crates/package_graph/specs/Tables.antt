@@ -5,7 +5,7 @@ use Rattle.numbered_nodes.specs.Bits.{room_for}
 use Rattle.numbered_nodes.specs.Edges.{Relates, HaveRoom}
 use Rattle.package_graph.specs.declared.modules.PackageModule.{PackageModule}
 use Rattle.package_graph.specs.declared.packages.Packages.{Packages}
-use Rattle.package_graph.specs.Names.{same_text}
+use Rattle.mk_base.specs.Texts.{same_text}
 use Rattle.package_graph.specs.Packages.{first_package, has_package, least_faulty, is_damaged, is_dangling}
 
 abbrev pub first_in : Packages → List ℕ → Option ℕ

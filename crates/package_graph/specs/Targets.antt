@@ -8,7 +8,7 @@ use Rattle.package_graph.specs.declared.modules.PackageModule.{PackageModule}
 use Rattle.package_graph.specs.declared.modules.PackageState.{PackageState}
 use Rattle.package_graph.specs.declared.tables.Home.{Home}
 use Rattle.package_graph.specs.declared.modules.PackageState.TheVariants.{Good, Damaged, Dangling}
-use Rattle.package_graph.specs.Names.{same_text}
+use Rattle.mk_base.specs.Texts.{same_text}
 use Rattle.package_graph.specs.Packages.{is_damaged, is_dangling, led_to, least}
 
 abbrev pub is_home : List ℕ → List ℕ → Home → Bool

@@ -5,7 +5,7 @@ ghost use Rattle.std.specs.Option.{option_copied, option_or};
 ghost use Rattle.indexmap.specs.IndexMap.{get};
 ghost use Rattle.numbered_nodes.specs.Bits.{has, room, room_for};
 ghost use Rattle.numbered_nodes.specs.Edges.{HaveRoom, Relates, lists};
-ghost use Rattle.package_graph.specs.Names.{same_text};
+ghost use Rattle.mk_base.specs.Texts.{same_text};
 ghost use Rattle.package_graph.specs.Packages as packages_spec;
 ghost use Rattle.package_graph.specs.Targets as targets_spec;
 ghost use Rattle.package_graph.specs.Targets.{home_in, is_state, least_at, place_if, state_places, targets_in};

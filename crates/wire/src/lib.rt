@@ -1,4 +1,5 @@
-//! Numbers and texts as bytes, in their one spelling.
+//! Numbers and texts as bytes, in their one spelling, read and written.
 #![tactic(auto)]
 
+pub mod get;
 pub mod put;

@@ -1,15 +1,14 @@
-use Rattle.hs_header.specs.declared.header_err.HeaderErr.TheVariants as error
-use Rattle.hs_header.proofs.Headers.{all_is, ok_of, fault_of}
+use Rattle.hs_header.proofs.Outcomes.{ok_of, lexeme_of, grammar_of, unknown_of}
 use Rattle.hs_header.proofs.read.read_header.Goals as goal
 
-pub returns-in-Ok-clause-ok : goal.returns-in-Ok-clause-ok
-returns-in-Ok-clause-ok c = ok_of c.read_on.result _ _ (all_is c.args.source.now (record { cursor = c.start-in-Ok.result; known = c.in-Ok.known }) c.start-in-Ok.ensures.is c.in-Ok.ensures) c.read_on.ensures
+pub returns-clause-ok : goal.returns-clause-ok
+returns-clause-ok c = ok_of c.args.source.now c.header_in.result c.header_in.ensures
 
-pub returns-in-Ok-clause-lexeme : goal.returns-in-Ok-clause-lexeme
-returns-in-Ok-clause-lexeme c = λ at e. fault_of c.read_on.result (error.Lexeme at) _ _ (all_is c.args.source.now (record { cursor = c.start-in-Ok.result; known = c.in-Ok.known }) c.start-in-Ok.ensures.is c.in-Ok.ensures) c.read_on.ensures e
+pub returns-clause-lexeme : goal.returns-clause-lexeme
+returns-clause-lexeme c = lexeme_of c.args.source.now c.header_in.result c.header_in.ensures
 
-pub returns-in-Ok-clause-grammar : goal.returns-in-Ok-clause-grammar
-returns-in-Ok-clause-grammar c = λ at e. fault_of c.read_on.result (error.Grammar at) _ _ (all_is c.args.source.now (record { cursor = c.start-in-Ok.result; known = c.in-Ok.known }) c.start-in-Ok.ensures.is c.in-Ok.ensures) c.read_on.ensures e
+pub returns-clause-grammar : goal.returns-clause-grammar
+returns-clause-grammar c = grammar_of c.args.source.now c.header_in.result c.header_in.ensures
 
-pub returns-in-Ok-clause-unknown : goal.returns-in-Ok-clause-unknown
-returns-in-Ok-clause-unknown c = λ at name e. fault_of c.read_on.result (error.Extension at name) _ _ (all_is c.args.source.now (record { cursor = c.start-in-Ok.result; known = c.in-Ok.known }) c.start-in-Ok.ensures.is c.in-Ok.ensures) c.read_on.ensures e
+pub returns-clause-unknown : goal.returns-clause-unknown
+returns-clause-unknown c = unknown_of c.args.source.now c.header_in.result c.header_in.ensures

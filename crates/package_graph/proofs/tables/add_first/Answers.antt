@@ -1,7 +1,7 @@
 use Rattle.std.proofs.Common.{◌≡◌, ◌∙◌, ap, subst, List, ℕ, None, rules}
 use Rattle.std.specs.Option.{option_or}
 use Rattle.indexmap.specs.IndexMap.{get}
-use Rattle.package_graph.specs.Names.{same_text}
+use Rattle.mk_base.specs.Texts.{same_text}
 use Rattle.package_graph.specs.Targets.{place_if}
 use Rattle.package_graph.proofs.Positions.{put_last}
 use Rattle.package_graph.proofs.tables.add_first.Goals as goal

@@ -1,5 +1,5 @@
 use Rattle.package_graph.specs.declared.modules.PackageModule.{PackageModule}
-use Rattle.package_graph.specs.Names.{same_text}
+use Rattle.mk_base.specs.Texts.{same_text}
 use Rattle.package_graph.proofs.Positions.{first_next}
 use Rattle.package_graph.proofs.tables.firsts_of.Goals as goal
 

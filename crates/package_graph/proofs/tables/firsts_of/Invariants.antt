@@ -1,6 +1,6 @@
 use Rattle.std.proofs.Common.{◌≡◌, ℕ, List, take}
 use Rattle.indexmap.specs.IndexMap.{get}
-use Rattle.package_graph.specs.Names.{same_text}
+use Rattle.mk_base.specs.Texts.{same_text}
 use Rattle.package_graph.specs.Packages.{first_package}
 use Rattle.package_graph.proofs.tables.firsts_of.Given as goal
 

@@ -1,0 +1,6 @@
+//! Expressions, and the declarations in them: their grammar, how they are read, and that both are the same.
+#![tactic(auto)]
+
+pub mod law;
+pub mod look;
+pub mod piece;

@@ -1,0 +1,9 @@
+use Rattle.std.proofs.Common.{◌≡◌, [], ◌∷◌}
+use Rattle.hs_header.specs.Readers.{more, export_at}
+use Rattle.hs_header.proofs.exports.more_exports.Given as goal
+
+abbrev pub invariant-loop-left : goal.invariant-loop-left
+invariant-loop-left l = more export_at l.left l.items l.rest ≡ more export_at l.fn.left (l.fn.first ∷ []) l.fn.tokens
+
+abbrev pub decreases-loop-left : goal.decreases-loop-left
+decreases-loop-left l = l.left

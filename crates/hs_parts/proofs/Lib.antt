@@ -1,0 +1,17 @@
+pub mod Steps
+pub mod NamesSound
+pub mod NamesComplete
+pub mod TypesSound
+pub mod TypesComplete
+pub mod TypesCut
+pub mod PatternsCut
+pub mod PatternsSound
+pub mod PatternsComplete
+pub mod ContextsSound
+pub mod ContextsComplete
+pub mod SidesSound
+pub mod SidesComplete
+pub mod Whole
+pub mod SigsSound
+pub mod SigsComplete
+pub mod Fronts

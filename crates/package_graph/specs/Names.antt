@@ -1,6 +1,0 @@
--- Names of modules and of packages, by their texts.
-use Rattle.std.specs.Prelude.{ℕ, Bool, nat_eq, List}
-use Rattle.std.specs.Cmp.Lexicographic.{pointwise}
-
-abbrev pub same_text : List ℕ → List ℕ → Bool
-same_text a b = pointwise nat_eq a b

@@ -1,0 +1,9 @@
+pub mod Caps
+pub mod Marks
+pub mod Merge
+pub mod Pressing
+pub mod Rerank
+pub mod Roots
+pub mod Steps
+pub mod Todo
+pub mod Undone

@@ -1,0 +1,4 @@
+pub mod Added
+pub mod Arena
+pub mod Read
+pub mod Walk

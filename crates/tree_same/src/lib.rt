@@ -1,0 +1,9 @@
+//! Whether the trees of a module are the same, tree by tree.
+#![tactic(auto)]
+
+pub mod constructors;
+pub mod kinds;
+pub mod names;
+pub mod patterns;
+pub mod signatures;
+pub mod types;
