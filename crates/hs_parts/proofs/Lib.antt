@@ -14,4 +14,3 @@ pub mod SidesComplete
 pub mod Whole
 pub mod SigsSound
 pub mod SigsComplete
-pub mod Fronts

@@ -6,4 +6,3 @@ pub mod PatternReaders
 pub mod SideReaders
 pub mod SigReaders
 pub mod Whole
-pub mod Nesting

@@ -4,6 +4,7 @@ use Rattle.mk_base.specs.declared.place.Pos.{Pos}
 use Rattle.hs_syntax.specs.declared.token.Token.{Token}
 use Rattle.hs_syntax.specs.declared.sign.Sign.{Sign}
 use Rattle.hs_syntax.specs.declared.sign.Sign.TheVariants.{CloseParen, Equals, Bar}
+use Rattle.hs_syntax.specs.declared.name_ref.NameRef.{NameRef}
 use Rattle.hs_syntax.specs.declared.name_ref.OpName.{OpName}
 use Rattle.hs_syntax.specs.declared.pattern_tree.ApatTree.{ApatTree}
 use Rattle.hs_syntax.specs.declared.pattern_tree.PatTree.{PatTree}
@@ -25,21 +26,33 @@ ends_side _ = false
 abbrev pub ended : LhsTree → List Token → Found LhsTree
 ended l ts = cond (begins ends_side ts) (Some (l, ts)) None
 
+-- the patterns behind a variable
+abbrev pub var_args : ℕ → Pos → NameRef → List Token → Found LhsTree
+var_args n at v ts = and_then (apats_at n ts) (λ ps rest. ended (lhs.Function at v ps) rest)
+
 -- a variable with the patterns behind it
 abbrev pub var_side : ℕ → List Token → Found LhsTree
-var_side n ts = and_then (var_at ts) (λ v rest. and_then (apats_at n rest) (λ ps last. ended (lhs.Function (place ts) v ps) last))
+var_side n ts = and_then (var_at ts) (λ v rest. var_args n (place ts) v rest)
 
 -- the right pattern of an operator
 abbrev pub infix_right : ℕ → Pos → PatTree → OpName → List Token → Found LhsTree
 infix_right n at p o ts = and_then (pattern_at n ts) (λ q rest. ended (lhs.Infix at p o q) rest)
 
+-- behind a pattern: an operator and a pattern
+abbrev pub infix_behind : ℕ → Pos → PatTree → List Token → Found LhsTree
+infix_behind n at p ts = and_then (varop_at ts) (λ o rest. infix_right n at p o rest)
+
 -- a pattern, an operator and a pattern
 abbrev pub infix_side : ℕ → List Token → Found LhsTree
-infix_side n ts = and_then (pattern_at n ts) (λ p rest. and_then (varop_at rest) (λ o last. infix_right n (place ts) p o last))
+infix_side n ts = and_then (pattern_at n ts) (λ p rest. infix_behind n (place ts) p rest)
 
--- the same, or a pattern alone
+-- behind a pattern: an operator and a pattern, or nothing
+abbrev pub pattern_behind : ℕ → Pos → PatTree → List Token → Found LhsTree
+pattern_behind n at p ts = or_else_by (varop_at ts) (λ o rest. infix_right n at p o rest) (ended (lhs.Pattern at p) ts)
+
+-- the same from the pattern on
 abbrev pub pattern_side : ℕ → List Token → Found LhsTree
-pattern_side n ts = and_then (pattern_at n ts) (λ p rest. or_else_by (varop_at rest) (λ o last. infix_right n (place ts) p o last) (ended (lhs.Pattern (place ts) p) rest))
+pattern_side n ts = and_then (pattern_at n ts) (λ p rest. pattern_behind n (place ts) p rest)
 
 abbrev pub applied : Pos → LhsTree → List ApatTree → LhsTree
 applied at l ps = lhs.Applied at l ps
@@ -48,21 +61,33 @@ applied at l ps = lhs.Applied at l ps
 abbrev pub applied_args : ℕ → Pos → LhsTree → List Token → Found LhsTree
 applied_args n at l ts = and_then (some_apats n ts) (λ ps rest. ended (applied at l ps) rest)
 
+-- the same from the closing parenthesis on
+abbrev pub closed_args : ℕ → Pos → LhsTree → List Token → Found LhsTree
+closed_args n at l ts = and_behind (behind is_close_paren ts) (applied_args n at l) None
+
 -- a left side in parentheses with the patterns behind it
 abbrev pub applied_side : ℕ → (List Token → Found LhsTree) → List Token → Found LhsTree
-applied_side n side ts = and_behind (behind is_open_paren ts) (λ b. and_then (side b) (λ l c. and_behind (behind is_close_paren c) (applied_args n (place ts) l) None)) None
+applied_side n side ts = and_behind (behind is_open_paren ts) (λ b. and_then (side b) (λ l c. closed_args n (place ts) l c)) None
+
+-- what defines a function and doesn't begin with a variable that is its name
+abbrev pub other_side : ℕ → (List Token → Found LhsTree) → List Token → Found LhsTree
+other_side n side ts = or_else (infix_side n ts) (applied_side n side ts)
 
 abbrev pub next_side : ℕ → (List Token → Found LhsTree) → List Token → Found LhsTree
-next_side n side ts = or_else (var_side n ts) (or_else (infix_side n ts) (applied_side n side ts))
+next_side n side ts = or_else (var_side n ts) (other_side n side ts)
 
 -- what defines a function
 unfoldable pub function_side : ℕ → List Token → Found LhsTree
 function_side zero ts = None
 function_side (suc n) ts = next_side n (function_side n) ts
 
+-- a left side that doesn't begin with a variable that is its name
+abbrev pub pattern_or_applied : ℕ → List Token → Found LhsTree
+pattern_or_applied n ts = or_else (pattern_side n ts) (applied_side n (function_side n) ts)
+
 -- the left side of a clause
 abbrev pub side_by : ℕ → List Token → Found LhsTree
-side_by n ts = or_else (var_side n ts) (or_else (pattern_side n ts) (applied_side n (function_side n) ts))
+side_by n ts = or_else (var_side n ts) (pattern_or_applied n ts)
 
 -- as many steps as the tokens can take
 abbrev pub enough : List Token → ℕ

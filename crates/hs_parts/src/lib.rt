@@ -1,9 +1,9 @@
-//! Names, types, contexts, patterns, left sides, signatures and fixities: what the grammar has without expressions.
+//! Names, types, contexts, patterns, signatures and fixities: what the grammar has without expressions and left sides.
 #![tactic(auto)]
 
 pub mod contexts;
 pub mod names;
-pub mod nesting;
 pub mod parse;
 pub mod patterns;
+pub mod sigs;
 pub mod types;

@@ -9,7 +9,6 @@ use Rattle.mk_base.specs.Order.{AreInOrder, diag_cmp}
 use Rattle.mk_base.specs.declared.name.Node.{Node}
 use Rattle.mk_base.specs.declared.diag.Diag.{Diag}
 use Rattle.mod_graph.specs.Graph.{entries, errors_by}
-use Rattle.mod_graph.specs.Laws as graph_laws
 use Rattle.mod_graph.proofs.InOrder.{errors_rise}
 use Rattle.plain_scope.specs.declared.scope.Content.{Content}
 use Rattle.face_model.specs.declared.result.Reason.TheVariants.{NoInterface}
@@ -41,14 +40,10 @@ unless_some : (xs ds : List Diag) → unless_none xs ≡ Some ds → xs ≡ ds
 unless_some [] ds h = absurd (let k : ⊥ = cc in k)
 unless_some (x ∷ xs) ds h = let k : x ∷ xs ≡ ds = cc in k
 
-in_order_too : (ds : List Diag) → graph_laws.AreInOrder ds → AreInOrder ds
-in_order_too [] h = tt
-in_order_too (d ∷ ds) h = (h.0, in_order_too ds h.1)
-
 graph_ordered : (t : PlainTree) (n : Node) (ds : List Diag) → graph_errors t n ≡ Some ds → AreInOrder ds
 graph_ordered t n ds h =
     subst AreInOrder (unless_some (filter (is_told n) (errors_by (input_of t) n)) ds h)
-    (filtered_ordered (is_told n) (errors_by (input_of t) n) (in_order_too (errors_by (input_of t) n) (errors_rise (entries (input_of t)) [] n)))
+    (filtered_ordered (is_told n) (errors_by (input_of t) n) (errors_rise (entries (input_of t)) [] n))
 
 -- the result of a node
 abbrev stages : Option (List Diag) → Option Node → Result Content (List Diag) → PlainJudged

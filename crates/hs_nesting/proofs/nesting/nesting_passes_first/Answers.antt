@@ -1,5 +1,5 @@
-use Rattle.hs_parts.proofs.Fronts.{nowhere, first, fronts}
-use Rattle.hs_parts.proofs.nesting.nesting_passes_first.Goals as goal
+use Rattle.hs_nesting.proofs.Fronts.{nowhere, first, fronts}
+use Rattle.hs_nesting.proofs.nesting.nesting_passes_first.Goals as goal
 
 pub returns-clause-nowhere : goal.returns-clause-nowhere
 returns-clause-nowhere c = nowhere

@@ -4,7 +4,7 @@ use Rattle.std.specs.declared.option.Option.{Option}
 use Rattle.mk_base.specs.declared.place.Pos.{Pos}
 use Rattle.hs_syntax.specs.declared.token.Token.{Token}
 use Rattle.hs_syntax.specs.Signs.{sign_of}
-use Rattle.hs_parts.specs.Nesting.{fits, first_over, nesting, levels_from, levels_behind, quoted_behind, role_of, PassesNowhere, PassesFirst, FrontsNestNoDeeper}
+use Rattle.hs_nesting.specs.Nesting.{fits, first_over, nesting, levels_from, levels_behind, quoted_behind, role_of, PassesNowhere, PassesFirst, FrontsNestNoDeeper}
 
 -- one lexeme that fits, and what follows
 none_on : (text front : Option Pos) (at : Pos) (fit : Bool) → (text ≡ None → front ≡ None) → (if fit then text else Some at) ≡ None → (if fit then front else Some at) ≡ None

@@ -1,6 +1,6 @@
 //! How deep the lexemes of a source nest.
 ghost use Rattle.std.specs.Prelude.{◌≡◌, ◌≤◌, ◌↔◌, [], ◌∷◌, IsTrue};
-ghost use Rattle.hs_parts.specs.Nesting as spec;
+ghost use Rattle.hs_nesting.specs.Nesting as spec;
 
 use hs_syntax::sign::{Sign, sign_of};
 use hs_syntax::token::Token;
@@ -84,7 +84,7 @@ struct Levels {
 
 impl Model for Levels {
     ghost use Rattle.std.specs.Prelude.{List, ℕ, ◌≡◌, ◌≤◌, drop};
-    ghost use Rattle.hs_parts.specs.Nesting as spec;
+    ghost use Rattle.hs_nesting.specs.Nesting as spec;
 
     ghost Value = { List ℕ };
 

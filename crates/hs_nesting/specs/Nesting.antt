@@ -6,8 +6,8 @@ use Rattle.hs_syntax.specs.declared.token.Token.{Token}
 use Rattle.hs_syntax.specs.declared.sign.Sign.{Sign}
 use Rattle.hs_syntax.specs.declared.sign.Sign.TheVariants.{Minus, Bang, Star, VarSym, QualifiedVarSym, ConSym, QualifiedConSym, OpenBrace, CloseBrace, Semicolon, OpenParen, CloseParen, OpenSquare, CloseSquare, Comma, Backquote, Case, Do, If, Let, Colon, Lambda, Bar, Arrow, As, Tilde}
 use Rattle.hs_syntax.specs.Signs.{sign_of}
-use Rattle.hs_parts.specs.declared.nesting.Role.{Role}
-use Rattle.hs_parts.specs.declared.nesting.Role.TheVariants as role
+use Rattle.hs_nesting.specs.declared.nesting.Role.{Role}
+use Rattle.hs_nesting.specs.declared.nesting.Role.TheVariants as role
 
 -- what a lexeme is to nesting
 abbrev pub role_of : Sign → Role

@@ -1,6 +1,6 @@
 //! Where nesting passes 500, and where it doesn't.
 use hs_lex::lex::lex;
-use hs_parts::nesting::nesting;
+use hs_nesting::nesting::nesting;
 use hs_syntax::token::{PutSign, Token, TokenKind};
 use mk_base::memory::NoMemory;
 use mk_base::place::Pos;
