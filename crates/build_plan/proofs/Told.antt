@@ -2,9 +2,10 @@
 use Rattle.std.proofs.Common.{◌≡◌, ◌∙◌, ap, sym, ℕ, List}
 use Rattle.std.specs.Prelude.{Ok, Err}
 use Rattle.mk_base.specs.declared.diag.Diag.{Diag}
-use Rattle.build_plan.specs.Tree.{told, no_lexeme, no_header}
+use Rattle.build_plan.specs.Tree.{told, no_header}
 use Rattle.mk_base.specs.declared.place.Pos.{Pos}
 use Rattle.hs_syntax.specs.declared.header.Header.{Header}
+use Rattle.hs_lex.specs.Told.{no_lexeme}
 use Rattle.hs_header.specs.Reading.{Lexeme, Grammar, Unknown, IsHeaderOf, IsBadAt, IsNoneAt, IsUnknownAt, header_of}
 use Rattle.hs_header.proofs.Outcomes as outcomes
 

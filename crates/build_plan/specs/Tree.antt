@@ -11,6 +11,7 @@ use Rattle.mk_io.specs.declared.file.File.{File}
 use Rattle.build_theory.specs.Build.{Tree, Language, sorted, order}
 use Rattle.hs_syntax.specs.declared.header.Header.{Header}
 use Rattle.hs_syntax.specs.declared.header.ImportItem.{ImportItem}
+use Rattle.hs_lex.specs.Told.{no_lexeme}
 use Rattle.hs_header.specs.Reading.{Fault, Lexeme, Grammar, Unknown, header_of}
 use Rattle.mod_graph.specs.declared.input.HeaderOf.{HeaderOf}
 use Rattle.mod_graph.specs.Names.{same_node, less_node}
@@ -29,9 +30,6 @@ abbrev pub SourceTree : Type 0
 SourceTree = Tree Settings Node (List ℕ)
 
 -- Headers.
-
-abbrev pub no_lexeme : Pos → Diag
-no_lexeme at = diag_at at 1 (codes "no lexeme begins here")
 
 abbrev pub no_header : Pos → Diag
 no_header at = diag_at at 3 (codes "this is no module header")

@@ -8,6 +8,7 @@ ghost use Rattle.build_plan.specs.Positions.{pairs};
 use crate::sources::Source;
 use hs_header::header_err::HeaderErr;
 use hs_header::read::read_header;
+use hs_lex::told::no_lexeme;
 use hs_syntax::header::{Header, ImportItem};
 use mk_base::diag::Diag;
 use mk_base::list::List;
@@ -21,14 +22,6 @@ use std::alloc::Global;
 
 /// The most bytes that a source may have.
 const MOST_BYTES: usize = 1_048_576;
-
-/// The diagnostic of a place at which no lexeme begins.
-fn no_lexeme(alloc: Global, at: Pos) -> Result<Diag, NoMemory>
-    ensures { IfOk result (λ d. d ≡ spec.no_lexeme at) }
-{
-    let text = Text::from_slice(alloc, b"no lexeme begins here")?;
-    Ok(Diag { at, code: 1, text })
-}
 
 /// The diagnostic of a lexeme with which a source leaves the grammar of headers.
 fn no_header(alloc: Global, at: Pos) -> Result<Diag, NoMemory>

@@ -5,10 +5,11 @@ use Rattle.mk_base.specs.declared.name.Node.{Node}
 use Rattle.mk_base.specs.declared.place.Pos.{Pos}
 use Rattle.hs_syntax.specs.declared.token.Token.{Token}
 use Rattle.hs_lex.specs.Tokens.{Lexes, IsFirstBad}
+use Rattle.hs_lex.specs.Told.{no_lexeme}
 use Rattle.hs_lex.proofs.Slow.{lexes_exactly, bad_exactly}
 use Rattle.mk_base.specs.declared.diag.Diag.{Diag}
 use Rattle.plain_form.specs.declared.form.Written.{Written}
-use Rattle.module_check.specs.Check.{of_lexemes, no_lexeme, items_of}
+use Rattle.module_check.specs.Check.{of_lexemes, items_of}
 
 -- the source with these lexemes is read as they are
 pub lexed : (n : Node) (s : List ℕ) (ts : List Token) (r : Result Written Diag) → Lexes s ts → r ≡ of_lexemes n (Ok ts) → r ≡ items_of n s

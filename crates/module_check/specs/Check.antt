@@ -1,11 +1,12 @@
 -- One module through its stages.
-use Rattle.std.specs.Prelude.{List, [], ◌∷◌, Result, Ok, Err, codes}
+use Rattle.std.specs.Prelude.{List, [], ◌∷◌, Result, Ok, Err}
 use Rattle.std.specs.Prelude.{ℕ}
 use Rattle.mk_base.specs.declared.name.Node.{Node}
 use Rattle.mk_base.specs.declared.diag.Diag.{Diag}
 use Rattle.mk_base.specs.declared.place.Pos.{Pos}
 use Rattle.hs_syntax.specs.declared.token.Token.{Token}
 use Rattle.hs_lex.specs.Slow.{read_source}
+use Rattle.hs_lex.specs.Told.{no_lexeme}
 use Rattle.hs_layout.specs.Braced.{braced}
 use Rattle.plain_form.specs.declared.form.Written.{Written}
 use Rattle.plain_scope.specs.declared.scope.Content.{Content}
@@ -14,9 +15,6 @@ use Rattle.plain_scope.specs.declared.scope.Checked.TheVariants.{Sound, Wrong}
 use Rattle.plain_scope.specs.Scope.{check_of}
 use Rattle.unbuilt_forms.specs.Unbuilt.{items}
 use Rattle.module_check.specs.declared.check.CheckSettings.{CheckSettings}
-
-abbrev pub no_lexeme : Pos → Diag
-no_lexeme at = record { at = at; code = 1; text = codes "no lexeme begins here" }
 
 -- lexemes are laid out and read as items
 abbrev pub of_lexemes : Node → Result (List Token) Pos → Result Written Diag

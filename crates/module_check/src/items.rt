@@ -4,24 +4,15 @@ ghost use Rattle.module_check.specs.Check as spec;
 
 use hs_layout::braced::braced;
 use hs_lex::lex::{LexErr, lex};
+use hs_lex::told::no_lexeme;
 use hs_syntax::token::Token;
 use mk_base::diag::Diag;
 use mk_base::list::List;
 use mk_base::memory::NoMemory;
 use mk_base::name::Node;
-use mk_base::place::Pos;
-use mk_base::text::Text;
 use plain_form::form::Written;
 use std::alloc::Global;
 use unbuilt_forms::items::items;
-
-/// The diagnostic of a place at which no lexeme begins.
-fn no_lexeme(alloc: Global, at: Pos) -> Result<Diag, NoMemory>
-    ensures { IfOk result (λ d. d ≡ spec.no_lexeme at) }
-{
-    let text = Text::from_slice(alloc, b"no lexeme begins here")?;
-    Ok(Diag { at, code: 1, text })
-}
 
 /// The items of a module from its lexemes, or the diagnostic of what isn't one.
 fn of_lexemes(

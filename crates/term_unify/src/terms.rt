@@ -153,8 +153,8 @@ const LEAF: u64 = 2305843009213693952;
 /// The least rank of a new application, 2^62, with room below for variables that get values.
 const APPLIED: u64 = 4611686018427387904;
 
-/// How far an application stands above its parts where there is room, 2^40.
-const GAP: u64 = 1099511627776;
+/// Into how many shares the room above its parts is divided, of which an application takes one, 2^26.
+const SHARES: u64 = 67108864;
 
 /// The rank of an application, above its parts.
 fn app_rank(slots: &[Slot], nodes: &[Node], f: usize, a: usize) -> Result<u64, NoMemory>
@@ -169,7 +169,8 @@ fn app_rank(slots: &[Slot], nodes: &[Node], f: usize, a: usize) -> Result<u64, N
     if most == u64::MAX {
         return Err(NoMemory);
     }
-    Ok(APPLIED.max(most.saturating_add(GAP)))
+    let gap = ((u64::MAX - most) / SHARES).max(1);
+    Ok(APPLIED.max(most.saturating_add(gap)))
 }
 
 /// Sees to it that the ceilings of the parts of a term are no higher than its rank.
