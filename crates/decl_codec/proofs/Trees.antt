@@ -22,7 +22,8 @@ use Rattle.mk_base.specs.declared.ty.Ty.TheViews.{roll-Ty}
 use Rattle.wire.specs.Wire.{num}
 use Rattle.wire.specs.Reading.{◌>>=◌, byte_at}
 use Rattle.wire.proofs.Codes.{IsCode, IsBytes, rest_is_bytes, bind_some, some_is, chosen, byte_code, untested}
-use Rattle.decl_codec.specs.Blobs.{kind_step, kind_bytes, kind_levels, kind_levels_step, kind_nodes, KindFits, ty_step, ty_bytes, ty_names, ty_names_step, nodes_of, vars_of, vars_step, TyFits}
+use Rattle.decl_codec.specs.Blobs.{kind_step, kind_bytes, kind_levels, kind_levels_step, kind_nodes, KindFits, ty_step, ty_bytes, ty_names, ty_names_step, nodes_of, TyFits}
+use Rattle.face_model.specs.Formed.{vars_of, vars_step}
 use Rattle.decl_codec.specs.Reading.{below_at, kind_tagged, kind_layer, kind_tree_at, kind_at, ty_tagged, ty_layer, ty_tree_at, ty_at}
 use Rattle.decl_codec.proofs.Names.{below_code}
 

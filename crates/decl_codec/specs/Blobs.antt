@@ -13,6 +13,7 @@ use Rattle.mk_base.specs.declared.ty.Ty.TheOpen.{Ty-F}
 use Rattle.mk_base.specs.declared.ty.Ty.TheOpen.Ty-F.{Var, Con, App}
 use Rattle.mk_base.specs.declared.ty.Ty.TheFolds.{fold-Ty}
 use Rattle.mk_base.specs.Types.{levels_of}
+use Rattle.face_model.specs.Formed.{vars_of}
 use Rattle.face_model.specs.declared.fixity.Assoc.{Assoc}
 use Rattle.face_model.specs.declared.fixity.Assoc.TheVariants as assocs
 use Rattle.face_model.specs.declared.fixity.Fixity.{Fixity}
@@ -87,15 +88,6 @@ nodes_step (App f x) = f + x + 1
 
 abbrev pub nodes_of : Ty → ℕ
 nodes_of = fold-Ty ℕ nodes_step
-
--- the least count that all variables are below
-abbrev pub vars_step : Ty-F ℕ → ℕ
-vars_step (Var n) = n + 1
-vars_step (Con a) = 0
-vars_step (App f x) = max f x
-
-abbrev pub vars_of : Ty → ℕ
-vars_of = fold-Ty ℕ vars_step
 
 -- the names that occur, in their order
 abbrev pub ty_names_step : Ty-F (List Name) → List Name

@@ -13,7 +13,8 @@ use Rattle.face_model.specs.declared.decl.Body.{Body}
 use Rattle.face_model.specs.declared.decl.Body.TheVariants.{Value, Alg, Synonym, Class, Abstract}
 use Rattle.face_model.specs.declared.decl.Decl.{Decl}
 use Rattle.wire.specs.Wire.{IsNum}
-use Rattle.decl_codec.specs.Blobs.{FixFits, assoc_number, vars_of}
+use Rattle.decl_codec.specs.Blobs.{FixFits, assoc_number}
+use Rattle.face_model.specs.Formed.{vars_of}
 use Rattle.decl_codec.specs.Names.{AreRising}
 
 -- a table whose names rise, and are fewer than 2 ^ 32

@@ -2,6 +2,7 @@
 #![tactic(auto)]
 
 pub mod decl;
+pub mod env;
 pub mod export;
 pub mod face;
 pub mod fixity;
