@@ -181,7 +181,7 @@ fn applied_to<'a>(
     side: LhsTree,
     args: Option<(Items<ApatTree>, &'a [Token])>,
 ) -> Found<'a, LhsTree>
-    ensures { IfOk result (λ r. seen r ≡ and_then (seen args) (λ ps rest. spec.ended (spec.applied at side ps) rest)) }
+    ensures { IfOk result (λ r. seen r ≡ and_then (seen args.entry) (λ ps rest. spec.ended (spec.applied at side ps) rest)) }
 {
     match args {
         None => Ok(None),
