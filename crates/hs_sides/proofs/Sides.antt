@@ -1,7 +1,7 @@
 -- What is read as a left side is the one that the tokens begin with.
-use Rattle.std.proofs.Common.{◌≡◌, Bool, true, false, List, Option, Some, None, is_some, IfOk, IfSome, IfNone, sym, ◌∙◌, subst}
+use Rattle.std.proofs.Common.{◌≡◌, true, false, List, Option, Some, None, is_some, IfOk, IfSome, IfNone, sym, ◌∙◌, subst}
 use Rattle.std.specs.Borrow.{Bor}
-use Rattle.std.specs.declared.result.Result.{Result}
+use Rattle.std.specs.Prelude.{Result}
 use Rattle.hs_syntax.specs.declared.token.Token.{Token}
 use Rattle.hs_syntax.specs.declared.pattern_tree.LhsTree.{LhsTree}
 use Rattle.hs_syntax.specs.Reading.{Found, seen, or_else, begins}
