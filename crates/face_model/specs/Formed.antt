@@ -1,6 +1,6 @@
 -- What is asked of each face in an environment: the constraints of an instance are on its variables, and each type
 -- variable is below the count of its scheme or of its list of kinds.
-use Rattle.std.specs.Prelude.{ℕ, ◌+◌, ◌≤◌, ◌<◌, List, length, max}
+use Rattle.std.specs.Prelude.{◌≡◌, ℕ, ◌+◌, ◌≤◌, ◌<◌, List, length, max}
 use Rattle.std.specs.List.{AllByRecursion}
 use Rattle.mk_base.specs.declared.ty.Ty.{Ty}
 use Rattle.mk_base.specs.declared.ty.Ty.TheVariants as types
