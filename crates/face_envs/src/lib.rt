@@ -1,4 +1,4 @@
 //! Environments over faces.
 #![tactic(auto)]
 
-pub mod held;
+pub mod tables;
