@@ -4,6 +4,9 @@ use Rattle.std.specs.declared.option.Option.{Option}
 use Rattle.std.specs.Cmp.Lexicographic.{nat_list_eq_equiv}
 use Rattle.std.proofs.lemmas.Bool.{and_parts}
 use Rattle.std.proofs.lemmas.Slice.Eq.{bytes_eq-Decides}
+use denote.Enum.Bare.{sameb}
+use Rattle.mk_base.specs.contracts.name.Space as space
+use Rattle.mk_base.specs.contracts.name.NamePartialEq.TheImpl as derived
 use Rattle.mk_base.specs.Order.{place_of_space}
 use Rattle.mk_base.specs.Texts.{same_text}
 use Rattle.mk_base.specs.declared.name.Space.{Space}
@@ -43,6 +46,21 @@ spaces_turn Con Ty = refl
 spaces_turn Ty Var = refl
 spaces_turn Ty Con = refl
 spaces_turn Ty Ty = refl
+
+-- the derived test of names is the test of the definitions
+spaces_same : (a b : Space) → sameb space.the_type a b ≡ same_space a b
+spaces_same Var Var = refl
+spaces_same Var Con = refl
+spaces_same Var Ty = refl
+spaces_same Con Var = refl
+spaces_same Con Con = refl
+spaces_same Con Ty = refl
+spaces_same Ty Var = refl
+spaces_same Ty Con = refl
+spaces_same Ty Ty = refl
+
+pub names_same : derived.eq-value.it ≡ same_name
+names_same = λ i a b. same_text a.unit.text b.unit.text && (same_text a.module.text b.module.text && (spaces_same a.occ.space b.occ.space i && same_text a.occ.text b.occ.text))
 
 -- the test of names tells them apart
 pub names_tell : (a b : Name) → same_name a b ≡ true → a ≡ b
