@@ -1,0 +1,6 @@
+pub mod Terms
+pub mod Spine
+pub mod Instances
+pub mod Reduce
+pub mod Laws
+pub mod Answers

@@ -1,0 +1,7 @@
+//! Constraints over an environment: reducing by instances.
+#![tactic(auto)]
+
+pub mod choice;
+pub mod outcome;
+pub mod reduce;
+pub mod spine;
