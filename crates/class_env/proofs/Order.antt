@@ -1,8 +1,9 @@
 -- Which constraints there are decides what is left and met, not their order, nor how often each is there.
-use Rattle.std.proofs.Common.{◌≡◌, ◌⊎◌, inl, inr, ℕ, ◌<◌, List, [], ◌∷◌, ◌++◌, get_or, Option, Some, None, sym, ◌∙◌, ap, subst, refl, arith}
+use Rattle.std.proofs.Common.{◌≡◌, ◌⊎◌, inl, inr, ◌<◌, List, [], ◌∷◌, ◌++◌, get_or, Option, Some, None, sym, ◌∙◌, ap, subst, refl, arith}
 use Rattle.std.specs.List.{Contains}
 use Rattle.std.proofs.lemmas.List.Elements.{Contains-append_left, Contains-append_right, Contains-append_cases}
 use Rattle.face_model.specs.declared.inst.Inst.{Inst}
+use Rattle.face_model.specs.declared.scheme.Constraint.{Constraint}
 use Rattle.mk_base.specs.declared.name.Name.{Name}
 use Rattle.class_env.specs.declared.outcome.Fault.{Fault}
 use Rattle.class_env.specs.Instances.{Outcome, outcome, unless, then}

@@ -7,10 +7,10 @@ use Rattle.face_model.specs.declared.scheme.Constraint.{Constraint}
 use Rattle.face_model.specs.declared.inst.Inst.{Inst}
 use Rattle.mk_base.specs.declared.name.Name.{Name}
 use Rattle.class_env.specs.declared.outcome.Fault.{Fault}
-use Rattle.class_env.specs.Instances.{Outcome, outcome, unless, then, only_of}
+use Rattle.class_env.specs.Instances.{Outcome, outcome, unless, then, Only, One, only_of}
 use Rattle.class_env.specs.Spine.{Head, Variable, Constructor, head, arguments}
 use Rattle.class_env.specs.declared.outcome.Fault.TheVariants.{NoInstanceVar}
-use Rattle.class_env.specs.Reduce.{reduce_at, given, on_variable, by_instance, pair, constraint}
+use Rattle.class_env.specs.Reduce.{reduce_at, given, on_variable, at_arguments, by_instance, pair, constraint}
 
 pub then_assoc : (a b c : Outcome) → then (then a b) c ≡ then a (then b c)
 then_assoc a b c = assoc_at a.fault b.fault where
@@ -21,6 +21,17 @@ then_assoc a b c = assoc_at a.fault b.fault where
 
 pub then_stopped : (a b : Outcome) (f : Fault) → a.fault ≡ Some f → then a b ≡ a
 then_stopped a b f e = ap (λ g. unless g a.rest a.met b) e ∙ ap (λ g. outcome a.rest a.met g) (sym e)
+
+-- the context of the one instance behind what is there and the pair
+pub on_one : (rest : List Constraint) (met more : List Pair) (p q : Pair) (o : Only) (i : Inst) (ks : List Constraint) (args : List (Name → Outcome)) → more ≡ met ++ q ∷ [] → q ≡ p → One i ≡ o → ks ≡ i.context
+    → then (outcome rest more None) (at_arguments ks args) ≡ then (outcome rest met None) (by_instance o p args)
+on_one rest met more p q o i ks args pushed copied one same =
+    let x = at_arguments i.context args in
+    ap (λ (m : List Pair). then (outcome rest m None) (at_arguments ks args)) pushed
+    ∙ ap (λ (r : Pair). then (outcome rest (met ++ r ∷ []) None) (at_arguments ks args)) copied
+    ∙ ap (λ (k : List Constraint). then (outcome rest (met ++ p ∷ []) None) (at_arguments k args)) same
+    ∙ ap (λ (m : List Pair). outcome (rest ++ x.rest) m x.fault) (append_assoc met (p ∷ []) x.met)
+    ∙ ap (λ (y : Only). then (outcome rest met None) (by_instance y p args)) one
 
 -- a type that is applied to arguments, by its head
 abbrev pub at_head : (Name → Name → List Inst) → Head → List (Name → Outcome) → Name → Outcome
@@ -56,7 +67,7 @@ module _ (members : Name → Name → List Inst) (t : Term) (c : Name) where
         at [] h = absurd (omega arith)
         at (a ∷ ts) h = refl
 
-  pub on_plain : (v : ℕ) (rest : List Constraint) (met : List Pair) → head t ≡ Variable v → (0 < length (arguments t) → ⊥) → outcome (rest ++ constraint c v ∷ []) met None ≡ then (outcome rest met None) (reduce_at members t [] c)
+  on_plain : (v : ℕ) (rest : List Constraint) (met : List Pair) → head t ≡ Variable v → (0 < length (arguments t) → ⊥) → outcome (rest ++ constraint c v ∷ []) met None ≡ then (outcome rest met None) (reduce_at members t [] c)
   on_plain v rest met e none =
       let k : on_variable v (given members t) c ≡ outcome (constraint c v ∷ []) [] None = at (arguments t) none in
       let r : reduce_at members t [] c ≡ outcome (constraint c v ∷ []) [] None = heads (Variable v) e ∙ k in
@@ -66,6 +77,10 @@ module _ (members : Name → Name → List Inst) (t : Term) (c : Name) where
         at : (ts : List Term) → (0 < length ts → ⊥) → on_variable v (map (λ a. reduce_at members a []) ts) c ≡ outcome (constraint c v ∷ []) [] None
         at [] h = refl
         at (a ∷ ts) h = absurd (h (omega arith))
+
+  pub on_plain_pushed : (v : ℕ) (rest more : List Constraint) (met : List Pair) (d : Name) → head t ≡ Variable v → (0 < length (arguments t) → ⊥) → d ≡ c → more ≡ rest ++ constraint d v ∷ [] → outcome more met None ≡ then (outcome rest met None) (reduce_at members t [] c)
+  on_plain_pushed v rest more met d e none copied pushed =
+      ap (λ (xs : List Constraint). outcome xs met None) pushed ∙ ap (λ (x : Name). outcome (rest ++ constraint x v ∷ []) met None) copied ∙ on_plain v rest met e none
 
   pub at_con : (k : Name) (is : List Inst) (a : Outcome) → head t ≡ Constructor k → is ≡ members c k → then a (by_instance (only_of is (length (arguments t))) (pair c k) (given members t)) ≡ then a (reduce_at members t [] c)
   at_con k is a e f =

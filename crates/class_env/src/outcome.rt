@@ -50,11 +50,19 @@ pub enum Reduced {
     },
     /// The first constraint without a result, at a place counted from 0: it needs a pair that has no instance with as
     /// many variables as the constructor has arguments.
-    NoInstance { at: u64, pair: Pair },
+    NoInstance {
+        at: u64,
+        pair: Pair,
+    },
     /// The same for a pair that has several such instances.
-    Several { at: u64, pair: Pair },
+    Several {
+        at: u64,
+        pair: Pair,
+    },
     /// The same for a variable that is applied to types.
-    NoInstanceVar { at: u64 },
+    NoInstanceVar {
+        at: u64,
+    },
 }
 
 impl Pair {

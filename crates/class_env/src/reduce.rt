@@ -47,14 +47,7 @@ pub fn reduce_one<E: Env>(
             let members = env.insts(alloc, class, head)?;
             let class = class.copy(alloc)?;
             let head = head.copy(alloc)?;
-            reduce_by(
-                alloc,
-                members.as_slice(),
-                Pair { class, head },
-                t,
-                env,
-                out,
-            )
+            reduce_by(alloc, members.as_slice(), Pair { class, head }, t, env, out)
         }
     }
 }
