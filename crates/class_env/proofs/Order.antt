@@ -22,7 +22,7 @@ both_none a b h = at a.fault refl h where
 then_plain : (a b : Outcome) → a.fault ≡ None → then a b ≡ outcome (a.rest ++ b.rest) (a.met ++ b.met) b.fault
 then_plain a b e = ap (λ x. unless x a.rest a.met b) e
 
-only_one : {X : Type 0} (w v : X) → Contains (w ∷ []) v → w ≡ v
+pub only_one : {X : Type 0} (w v : X) → Contains (w ∷ []) v → w ≡ v
 only_one w v h =
     let lt : h.0 < 1 = h.1 in
     let at : h.0 ≡ 0 = omega arith in

@@ -4,3 +4,4 @@ pub mod Instances
 pub mod Reduce
 pub mod Laws
 pub mod Answers
+pub mod Supers

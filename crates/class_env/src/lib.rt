@@ -2,6 +2,8 @@
 #![tactic(auto)]
 
 pub mod choice;
+pub mod names;
 pub mod outcome;
 pub mod reduce;
 pub mod spine;
+pub mod supers;
