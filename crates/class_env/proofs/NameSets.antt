@@ -1,5 +1,5 @@
 -- Names that are the same, and names without repetition.
-use Rattle.std.proofs.Common.{rules, arith, ◌<◌, ◌≡◌, ◌⊎◌, ◌↔◌, inl, inr, ℕ, Bool, true, false, List, [], ◌∷◌, ◌++◌, sym, ◌∙◌, ap, subst, refl, length, ◌≤◌}
+use Rattle.std.proofs.Common.{rules, arith, ◌<◌, ◌≡◌, ◌⊎◌, inl, inr, Bool, true, false, List, [], ◌∷◌, ◌++◌, sym, ◌∙◌, ap, subst, refl, length, ◌≤◌}
 use Rattle.std.specs.Prelude.{if◌then◌else◌}
 use Rattle.std.specs.List.{Contains, IsDistinct, list_any}
 use Rattle.std.specs.Bool.{Decides}
@@ -27,6 +27,7 @@ pub grown_by : (old more new : List Name) (x : Name) (newer : List Name) → Gro
 grown_by old more new x newer g e = at (list_any (same x) new) refl where
   has_new : (y : Name) → Contains new y → Contains old y ⊎ Contains (more ++ x ∷ []) y
   has_new y h = elim ((g.has y).0 h) [ inl p ↦ inl p | inr q ↦ inr (Contains-append_left more (x ∷ []) y q) ]
+
   at : (b : Bool) → list_any (same x) new ≡ b → Grown old (more ++ x ∷ []) newer
   at true h =
       let is : newer ≡ new = e ∙ ap (λ (b : Bool). if b then new else new ++ x ∷ []) h in
@@ -39,7 +40,7 @@ grown_by old more new x newer g e = at (list_any (same x) new) refl where
           (λ k. subst (λ (l : List Name). Contains l y) (sym is) (elim k [
             | inl p ↦ (g.has y).1 (inl p)
             | inr q ↦ elim (Contains-append_cases more (x ∷ []) y q) [ inl r ↦ (g.has y).1 (inr r) | inr s ↦ subst (Contains new) (only_one x y s) there ]
-          ]))
+          ])),
         );
       }
   at false h =
@@ -58,7 +59,7 @@ grown_by old more new x newer g e = at (list_any (same x) new) refl where
               | inl r ↦ Contains-append_left new (x ∷ []) y ((g.has y).1 (inr r))
               | inr s ↦ Contains-append_right new (x ∷ []) y s
             ]
-          ]))
+          ])),
         );
       }
 

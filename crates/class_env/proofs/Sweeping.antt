@@ -1,7 +1,7 @@
 -- A class and what is reached from it over superclasses, found one after another.
-use Rattle.std.proofs.Common.{◌≡◌, ◌⊎◌, ◌↔◌, inl, inr, ℕ, ◌+◌, ◌<◌, ◌≤◌, Bool, true, false, List, [], ◌∷◌, ◌++◌, length, take, get_or, Option, Some, None, sym, ◌∙◌, ap, subst, refl, arith}
+use Rattle.std.proofs.Common.{◌≡◌, ◌↔◌, inl, inr, ℕ, ◌+◌, ◌<◌, ◌≤◌, Bool, true, false, List, [], ◌∷◌, ◌++◌, length, take, get_or, Some, sym, ◌∙◌, ap, subst, refl, arith, suc, cond}
 use Rattle.std.specs.Prelude.{find, flat_map}
-use Rattle.std.specs.List.{Contains, IsDistinct, slice_get}
+use Rattle.std.specs.List.{Contains, IsDistinct}
 use Rattle.std.proofs.Math.Seq.{take-suc}
 use Rattle.std.proofs.lemmas.List.{take-append-le, take_all}
 use Rattle.std.proofs.lemmas.List.Elements.{Contains-append_left, Contains-append_right, Contains-append_cases, Contains-get_or}
@@ -14,6 +14,9 @@ use Rattle.class_env.proofs.NameSets.{same, at_most}
 
 no_member : {X : Type 0} {A : Type 0} (x : X) → Contains [] x → A
 no_member x h = absurd (let lt : h.0 < 0 = h.1 in omega arith)
+
+pub take_next : {X : Type 0} (l : List X) (j : ℕ) (d x : X) → j < length l → get_or l j d ≡ x → take (j + 1) l ≡ take j l ++ x ∷ []
+take_next {X} l j d x lt e = let n : j + 1 ≡ suc j = omega arith in ap (λ (k : ℕ). take k l) n ∙ take-suc l j d lt ∙ ap (λ (y : X). take j l ++ y ∷ []) e
 
 module _ (supers : Name → List Name) where
   reach_on : {a b c : Name} → Reaches supers a b → Contains (supers b) c → Reaches supers a c
@@ -36,7 +39,7 @@ module _ (supers : Name → List Name) where
       let y : Name = get_or keys done class in
       let g : Grown keys (supers y) new = grown y (slice_get-get_or keys done class lt) in
       let there : Contains keys y = Contains-get_or keys done class lt in
-      let front : take (done + 1) new ≡ take done keys ++ y ∷ [] = ap (take (done + 1)) g.is ∙ take-append-le (done + 1) keys g.tail (omega arith) ∙ take-suc keys done class lt in
+      let front : take (done + 1) new ≡ take done keys ++ y ∷ [] = ap (take (done + 1)) g.is ∙ take-append-le (done + 1) keys g.tail (omega arith) ∙ take_next keys done class y lt refl in
       record {
         start = (g.has class).1 (inl s.start);
         given = λ x h. elim ((g.has x).0 h) [ inl p ↦ s.given x p | inr q ↦ gives_on class y x (s.given y there) q ];
@@ -52,11 +55,13 @@ module _ (supers : Name → List Name) where
 
   pub swept_end : (class : Name) (keys : List Name) (done : ℕ) → Swept supers class keys done → length keys ≤ done → (c : Name) → Contains keys c ↔ Gives supers class c
   swept_end class keys done s le c =
-      let all : take done keys ≡ keys = take_all done keys le in
-      (s.given c, (λ g. elim g [
-        | inl e ↦ subst (Contains keys) e s.start
-        | inr r ↦ reached class keys (λ y h x q. s.closed y (subst (λ (l : List Name). Contains l y) (sym all) h) x q) s.start r
-      ]))
+      let all : take done keys ≡ keys = take_all done keys le in (
+        s.given c,
+        (λ g. elim g [
+          | inl e ↦ subst (Contains keys) e s.start
+          | inr r ↦ reached class keys (λ y h x q. s.closed y (subst (λ (l : List Name). Contains l y) (sym all) h) x q) s.start r
+        ]),
+      )
 
 -- ---- how many classes there can be
 

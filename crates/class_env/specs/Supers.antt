@@ -1,5 +1,5 @@
 -- The superclasses of classes, and what is reached over them.
-use Rattle.std.specs.Prelude.{ℕ, ◌≡◌, ◌⊎◌, ◌↔◌, List, [], ◌∷◌, ◌++◌, take, Option, Some, None}
+use Rattle.std.specs.Prelude.{ℕ, ◌≡◌, ◌⊎◌, ◌↔◌, List, [], ◌++◌, take, Option, Some, None}
 use Rattle.std.specs.List.{Contains, slice_get}
 use Rattle.mk_base.specs.declared.name.Name.{Name}
 use Rattle.face_model.specs.declared.decl.Body.{Body}

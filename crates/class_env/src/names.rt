@@ -9,11 +9,7 @@ use mk_base::name::Name;
 use std::alloc::Global;
 
 /// Puts copies of more names behind those that are there.
-pub fn put_all(
-    alloc: Global,
-    names: &mut IndexSet<Name>,
-    more: &[Name],
-) -> Result<(), NoMemory>
+pub fn put_all(alloc: Global, names: &mut IndexSet<Name>, more: &[Name]) -> Result<(), NoMemory>
     ensures { OnOk result (Grown names.old.keys more.now names.new.keys) }
 {
     for name in more {

@@ -60,11 +60,7 @@ fn put_supers<E: Env>(
 }
 
 /// A class and all superclasses that are reached from it; these may go in a circle.
-pub fn above<E: Env>(
-    alloc: Global,
-    class: &Name,
-    env: &mut E,
-) -> Result<IndexSet<Name>, NoMemory>
+pub fn above<E: Env>(alloc: Global, class: &Name, env: &mut E) -> Result<IndexSet<Name>, NoMemory>
     ensures same { E.faces env.new ≡ E.faces env.old }
     ensures exact { IfOk result (λ names. (c : Name) → Contains names.keys c ↔ Gives (supers_of (E.faces env.old)) class.now c) }
 {
