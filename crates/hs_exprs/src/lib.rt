@@ -3,4 +3,6 @@
 
 pub mod law;
 pub mod look;
+pub mod part;
 pub mod piece;
+pub mod tree;
