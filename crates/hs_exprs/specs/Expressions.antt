@@ -244,6 +244,12 @@ found_sig at s ts = Some (decl.Sig at s, ts)
 abbrev pub found_fix : Pos → FixTree → List Token → Found DeclTree
 found_fix at f ts = Some (decl.Fix at f, ts)
 
+abbrev pub found_range : Pos → ExprTree → Option ExprTree → List Token → Found AexpTree
+found_range at e x ts = Some (aexp.Range at e x None, ts)
+
+abbrev pub found_section : Pos → ChainTree → QopTree → List Token → Found AexpTree
+found_section at c q ts = Some (aexp.LeftSection at c q, ts)
+
 -- Trees from what was read
 
 abbrev pub open_chain : Pos → List LinkTree → Pos → Bool → OpenTree → Chain
@@ -419,6 +425,10 @@ tuple_at r at es ts = and_then (r.exps es ts) (λ all end. with_sign (behind is_
 abbrev pub inside_at : Forms → ℕ → Pos → List Token → Found AexpTree
 inside_at r n at ts = and_then (r.chain false (place ts) [] ts) (λ c rest. or_else_by (section_end_at rest) (λ q end. Some (aexp.LeftSection at c.tree q, end))
     (and_then (typed_at n false (place ts) c rest) (λ e more. tuple_at r at (e ∷ []) more)))
+
+-- the same from behind the first expression on
+abbrev pub tuple_from : Forms → Pos → ExprTree → List Token → Found AexpTree
+tuple_from r at e ts = tuple_at r at (e ∷ []) ts
 
 -- a list, once its first expressions are read
 abbrev pub list_at : Forms → Pos → List ExprTree → List Token → Found AexpTree
