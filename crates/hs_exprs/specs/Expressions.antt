@@ -238,6 +238,9 @@ typed_behind n tail at c ts = and_then (type_at n tail ts) (λ q end. Some (expr
 abbrev pub before_comma_at : ℕ → List Token → Found QualifiedType
 before_comma_at n ts = and_then (qualified_at n ts) (λ q rest. cond (begins is_comma rest) (Some (q, rest)) None)
 
+abbrev pub type_before_sign_at : ℕ → List Token → Found QualifiedType
+type_before_sign_at n ts = or_else (before_comma_at n ts) (qualified_tail n ts)
+
 abbrev pub found_sig : Pos → SigTree → List Token → Found DeclTree
 found_sig at s ts = Some (decl.Sig at s, ts)
 

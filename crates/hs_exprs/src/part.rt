@@ -1,5 +1,5 @@
 //! Parts of expressions that have no expression in them.
-ghost use Rattle.std.specs.Prelude.{◌≡◌, IfOk};
+ghost use Rattle.std.specs.Prelude.{◌≡◌, true, IfOk};
 ghost use Rattle.hs_syntax.specs.Reading.{seen};
 ghost use Rattle.hs_parts.specs.PatternReaders.{pattern_at};
 ghost use Rattle.hs_exprs.specs.Expressions as spec;
@@ -228,16 +228,24 @@ pub fn atom<'a>(alloc: Global, tokens: &'a [Token]) -> Found<'a, Boxed<AexpTree>
     con_or_literal(alloc, tokens)
 }
 
+/// A type with a comma behind it, or else one as far as an arrow follows it.
+fn type_before_sign<'a>(alloc: Global, left: usize, tokens: &'a [Token]) -> Found<'a, QualifiedType>
+    ensures { IfOk result (λ r. seen r ≡ spec.type_before_sign_at left tokens.now) }
+{
+    let found = before_comma(alloc, left, tokens)?;
+    if found.is_some() {
+        return Ok(found);
+    }
+    qualified_tail(alloc, left, tokens)
+}
+
 /// The type behind the `::` of a guard's last operand: as far as it goes where a comma follows it, else as far as an
 /// arrow follows it.
 fn guard_type<'a>(alloc: Global, left: usize, tokens: &'a [Token]) -> Found<'a, QualifiedType>
     ensures { IfOk result (λ r. seen r ≡ spec.type_at left true tokens.now) }
 {
-    let whole = before_comma(alloc, left, tokens)?;
-    if whole.is_some() {
-        return Ok(whole);
-    }
-    qualified_tail(alloc, left, tokens)
+    let found = type_before_sign(alloc, left, tokens)?;
+    Ok(found)
 }
 
 /// A type with a comma behind it.

@@ -208,11 +208,7 @@ pub fn two_exps(
 }
 
 /// `( exp {, exp} )`
-pub fn tuple_of(
-    alloc: Global,
-    at: Pos,
-    parts: Items<ExprTree>,
-) -> Result<Boxed<AexpTree>, NoMemory>
+pub fn tuple_of(alloc: Global, at: Pos, parts: Items<ExprTree>) -> Result<Boxed<AexpTree>, NoMemory>
     ensures { IfOk result (λ x. x ≡ spec.tuple_of at parts) }
 {
     let made = Boxed::new(alloc, AexpTree::Tuple { at, parts })?;
@@ -220,11 +216,7 @@ pub fn tuple_of(
 }
 
 /// `[ exp {, exp} ]`
-pub fn list_of(
-    alloc: Global,
-    at: Pos,
-    parts: Items<ExprTree>,
-) -> Result<Boxed<AexpTree>, NoMemory>
+pub fn list_of(alloc: Global, at: Pos, parts: Items<ExprTree>) -> Result<Boxed<AexpTree>, NoMemory>
     ensures { IfOk result (λ x. x ≡ spec.list_of at parts) }
 {
     let made = Boxed::new(alloc, AexpTree::List { at, parts })?;
@@ -309,11 +301,14 @@ pub fn updated(
         return Ok(tree);
     }
     let updates = Items::from_vec(updates);
-    let made = Boxed::new(alloc, AexpTree::Update {
+    let made = Boxed::new(
+        alloc,
+        AexpTree::Update {
             at,
             record: tree,
             updates,
-        })?;
+        },
+    )?;
     Ok(made)
 }
 
