@@ -1,0 +1,108 @@
+-- Tables that keep the first place of a name.
+use Rattle.std.proofs.Common.{◌≡◌, ℕ, Bool, true, false, ◌&&◌, List, cond, nat_eq, Some, None, refl, ap, sym, ◌∙◌, subst}
+use Rattle.std.specs.declared.option.Option.{Option}
+use Rattle.std.specs.Cmp.Lexicographic.{nat_list_eq_equiv}
+use Rattle.std.proofs.lemmas.Bool.{and_parts}
+use Rattle.std.proofs.lemmas.Slice.Eq.{bytes_eq-Decides}
+use denote.Enum.Bare.{sameb}
+use Rattle.mk_base.specs.contracts.name.Space as space
+use Rattle.mk_base.specs.contracts.name.NamePartialEq.TheImpl as derived
+use Rattle.mk_base.specs.Order.{place_of_space}
+use Rattle.mk_base.specs.Texts.{same_text}
+use Rattle.mk_base.specs.declared.name.Space.{Space}
+use Rattle.mk_base.specs.declared.name.Space.TheVariants.{Var, Con, Ty}
+use Rattle.mk_base.specs.declared.name.Name.{Name}
+use Rattle.mk_base.specs.declared.name.ModName.{ModName}
+use Rattle.face_model.specs.Environments.{same_name}
+use Rattle.face_envs.specs.Tables.{or_first, same_module}
+
+texts_tell : (a b : List ℕ) → same_text a b ≡ true → a ≡ b
+texts_tell a b e = (bytes_eq-Decides a b).0 e
+
+texts_turn : (a b : List ℕ) → same_text a b ≡ same_text b a
+texts_turn a b = nat_list_eq_equiv.symm a b
+
+abbrev same_space : Space → Space → Bool
+same_space a b = nat_eq (place_of_space a) (place_of_space b)
+
+spaces_tell : (a b : Space) → same_space a b ≡ true → a ≡ b
+spaces_tell Var Var e = refl
+spaces_tell Var Con e = absurd (let h : ⊥ = cc in h)
+spaces_tell Var Ty e = absurd (let h : ⊥ = cc in h)
+spaces_tell Con Var e = absurd (let h : ⊥ = cc in h)
+spaces_tell Con Con e = refl
+spaces_tell Con Ty e = absurd (let h : ⊥ = cc in h)
+spaces_tell Ty Var e = absurd (let h : ⊥ = cc in h)
+spaces_tell Ty Con e = absurd (let h : ⊥ = cc in h)
+spaces_tell Ty Ty e = refl
+
+spaces_turn : (a b : Space) → same_space a b ≡ same_space b a
+spaces_turn Var Var = refl
+spaces_turn Var Con = refl
+spaces_turn Var Ty = refl
+spaces_turn Con Var = refl
+spaces_turn Con Con = refl
+spaces_turn Con Ty = refl
+spaces_turn Ty Var = refl
+spaces_turn Ty Con = refl
+spaces_turn Ty Ty = refl
+
+-- the derived test of names is the test of the definitions
+spaces_same : (a b : Space) → sameb space.the_type a b ≡ same_space a b
+spaces_same Var Var = refl
+spaces_same Var Con = refl
+spaces_same Var Ty = refl
+spaces_same Con Var = refl
+spaces_same Con Con = refl
+spaces_same Con Ty = refl
+spaces_same Ty Var = refl
+spaces_same Ty Con = refl
+spaces_same Ty Ty = refl
+
+pub names_same : derived.eq-value.it ≡ same_name
+names_same = λ i a b. same_text a.unit.text b.unit.text && (same_text a.module.text b.module.text && (spaces_same a.occ.space b.occ.space i && same_text a.occ.text b.occ.text))
+
+-- the test of names tells them apart
+pub names_tell : (a b : Name) → same_name a b ≡ true → a ≡ b
+names_tell a b e =
+    let p = and_parts (same_text a.unit.text b.unit.text) (same_text a.module.text b.module.text && (same_space a.occ.space b.occ.space && same_text a.occ.text b.occ.text)) e in
+    let q = and_parts (same_text a.module.text b.module.text) (same_space a.occ.space b.occ.space && same_text a.occ.text b.occ.text) p.1 in
+    let r = and_parts (same_space a.occ.space b.occ.space) (same_text a.occ.text b.occ.text) q.1 in
+    let u = texts_tell a.unit.text b.unit.text p.0 in
+    let m = texts_tell a.module.text b.module.text q.0 in
+    let s = spaces_tell a.occ.space b.occ.space r.0 in
+    let t = texts_tell a.occ.text b.occ.text r.1 in
+    λ i. record { unit = record { text = u i }; «module» = record { text = m i }; occ = record { space = s i; text = t i } }
+
+pub names_turn : (a b : Name) → same_name a b ≡ same_name b a
+names_turn a b =
+    λ i. texts_turn a.unit.text b.unit.text i && (texts_turn a.module.text b.module.text i && (spaces_turn a.occ.space b.occ.space i && texts_turn a.occ.text b.occ.text i))
+
+pub modules_tell : (a b : ModName) → same_module a b ≡ true → a ≡ b
+modules_tell a b e =
+    let t = texts_tell a.text b.text e in
+    λ i. record { text = t i }
+
+pub modules_turn : (a b : ModName) → same_module a b ≡ same_module b a
+modules_turn a b = texts_turn a.text b.text
+
+either : {G : Type 0} (b : Bool) → (b ≡ true → G) → (b ≡ false → G) → G
+either true f g = f refl
+either false f g = g refl
+
+or_none : {V : Type 0} (o : Option V) → or_first o None ≡ o
+or_none None = refl
+or_none (Some x) = refl
+
+-- a name that had no place has one, and no other name's is changed
+pub placed_next : {K V : Type 0} (same : K → K → Bool) (tell : (a b : K) → same a b ≡ true → a ≡ b) (turn : (a b : K) → same a b ≡ same b a)
+    → (f g : K → Option V) (k m : K) (v : V) → f k ≡ None → g m ≡ cond (same k m) (Some v) (f m) → g m ≡ or_first (f m) (cond (same m k) (Some v) None)
+placed_next {K} {V} same tell turn f g k m v none e =
+    either (same k m)
+    (λ s.
+    let here : same m k ≡ true = turn m k ∙ s in
+    let old : f m ≡ None = ap f (sym (tell k m s)) ∙ none in
+    e ∙ ap (λ b. cond b (Some v) (f m)) s ∙ sym (ap (λ b. or_first (f m) (cond {A = Option V} b (Some v) None)) here ∙ ap (λ o. or_first o (Some v)) old))
+    (λ s.
+    let other : same m k ≡ false = turn m k ∙ s in
+    e ∙ ap (λ b. cond b (Some v) (f m)) s ∙ sym (ap (λ b. or_first (f m) (cond {A = Option V} b (Some v) None)) other ∙ or_none (f m)))

@@ -1,0 +1,4 @@
+//! Environments over faces.
+#![tactic(auto)]
+
+pub mod tables;
