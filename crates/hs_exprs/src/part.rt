@@ -1,5 +1,5 @@
 //! Parts of expressions that have no expression in them.
-ghost use Rattle.std.specs.Prelude.{true, ◌≡◌, true, IfOk};
+ghost use Rattle.std.specs.Prelude.{◌≡◌, true, IfOk};
 ghost use Rattle.hs_syntax.specs.Reading.{seen};
 ghost use Rattle.hs_parts.specs.PatternReaders.{pattern_at};
 ghost use Rattle.hs_exprs.specs.Expressions as spec;
