@@ -19,3 +19,4 @@ pub mod BlockComplete
 pub mod Complete
 pub mod PartsExact
 pub mod Whole
+pub mod Choices

@@ -4,6 +4,7 @@ use Rattle.mk_base.specs.declared.place.Pos.{Pos}
 use Rattle.hs_syntax.specs.declared.token.Token.{Token}
 use Rattle.hs_syntax.specs.declared.sign.Sign.{Sign}
 use Rattle.hs_syntax.specs.declared.sign.Sign.TheVariants.{Var, QualifiedVar, Con, QualifiedCon, Minus, Number, Quoted, OpenBrace, CloseBrace, Semicolon, OpenParen, OpenSquare, Comma, Case, Do, If, Let, Dots, Lambda, Bar}
+use Rattle.hs_syntax.specs.declared.name_ref.NameRef.{NameRef}
 use Rattle.hs_syntax.specs.declared.name_ref.QopTree.{QopTree}
 use Rattle.hs_syntax.specs.declared.type_tree.QualifiedType.{QualifiedType}
 use Rattle.hs_syntax.specs.declared.pattern_tree.GconTree.{GconTree}
@@ -14,6 +15,7 @@ use Rattle.hs_syntax.specs.declared.expr_tree.ExprTree.{ExprTree}
 use Rattle.hs_syntax.specs.declared.expr_tree.LinkTree.{LinkTree}
 use Rattle.hs_syntax.specs.declared.expr_tree.ChainTree.{ChainTree}
 use Rattle.hs_syntax.specs.declared.expr_tree.LastTree.TheVariants as last
+use Rattle.hs_syntax.specs.declared.expr_tree.OpenTree.{OpenTree}
 use Rattle.hs_syntax.specs.declared.expr_tree.OpenTree.TheVariants as open_
 use Rattle.hs_syntax.specs.declared.expr_tree.ClosedTree.{ClosedTree}
 use Rattle.hs_syntax.specs.declared.expr_tree.ClosedTree.TheVariants as closed
@@ -33,6 +35,8 @@ use Rattle.hs_syntax.specs.declared.expr_tree.FbindTree.{FbindTree}
 use Rattle.hs_syntax.specs.declared.expr_tree.DeclTree.{DeclTree}
 use Rattle.hs_syntax.specs.declared.expr_tree.DeclTree.TheVariants as decl
 use Rattle.hs_syntax.specs.declared.expr_tree.Clause.{Clause}
+use Rattle.hs_syntax.specs.declared.expr_tree.SigTree.{SigTree}
+use Rattle.hs_syntax.specs.declared.expr_tree.FixTree.{FixTree}
 use Rattle.hs_syntax.specs.declared.expr_tree.RhsTree.{RhsTree}
 use Rattle.hs_syntax.specs.declared.expr_tree.RhsTree.TheVariants as rhs
 use Rattle.hs_syntax.specs.Signs.{sign_of}
@@ -205,7 +209,90 @@ let_chain at ds e = chain_tree at [] (last.Open at false (open_.Let at ds e))
 abbrev pub let_exp : Pos → List DeclTree → ExprTree → ExprTree
 let_exp at ds e = expr_tree at (let_chain at ds e) None
 
+-- What was read, with the tokens behind it
+
+abbrev pub found_pattern : PatTree → List Token → Found PatTree
+found_pattern p ts = Some (p, ts)
+
+abbrev pub found_var : Pos → NameRef → List Token → Found AexpTree
+found_var at n ts = Some (aexp.Var at n, ts)
+
+abbrev pub found_con : Pos → GconTree → List Token → Found AexpTree
+found_con at g ts = Some (aexp.Con at g, ts)
+
+abbrev pub found_literal : Token → List Token → Found AexpTree
+found_literal t ts = Some (aexp.Literal t.at t, ts)
+
+abbrev pub con_or_literal_at : List Token → Found AexpTree
+con_or_literal_at ts = or_else (con_at ts) (literal_at ts)
+
+abbrev pub found_typed : Pos → Chain → QualifiedType → List Token → Found ExprTree
+found_typed at c q ts = Some (expr_tree at c.tree (Some q), ts)
+
+abbrev pub found_plain : Pos → Chain → List Token → Found ExprTree
+found_plain at c ts = Some (expr_tree at c.tree None, ts)
+
+abbrev pub typed_behind : ℕ → Bool → Pos → Chain → List Token → Found ExprTree
+typed_behind n tail at c ts = and_then (type_at n tail ts) (λ q end. Some (expr_tree at c.tree (Some q), end))
+
+abbrev pub before_comma_at : ℕ → List Token → Found QualifiedType
+before_comma_at n ts = and_then (qualified_at n ts) (λ q rest. cond (begins is_comma rest) (Some (q, rest)) None)
+
+abbrev pub type_before_sign_at : ℕ → List Token → Found QualifiedType
+type_before_sign_at n ts = or_else (before_comma_at n ts) (qualified_tail n ts)
+
+abbrev pub found_sig : Pos → SigTree → List Token → Found DeclTree
+found_sig at s ts = Some (decl.Sig at s, ts)
+
+abbrev pub found_fix : Pos → FixTree → List Token → Found DeclTree
+found_fix at f ts = Some (decl.Fix at f, ts)
+
+abbrev pub found_range : Pos → ExprTree → Option ExprTree → List Token → Found AexpTree
+found_range at e x ts = Some (aexp.Range at e x None, ts)
+
+abbrev pub found_section : Pos → ChainTree → QopTree → List Token → Found AexpTree
+found_section at c q ts = Some (aexp.LeftSection at c q, ts)
+
 -- Trees from what was read
+
+abbrev pub open_chain : Pos → List LinkTree → Pos → Bool → OpenTree → Chain
+open_chain at ls p m x = record { tree = chain_tree at ls (last.Open p m x); is_open = true }
+
+abbrev pub closed_chain : Pos → List LinkTree → Pos → Bool → ClosedTree → Chain
+closed_chain at ls p m x = record { tree = chain_tree at ls (last.Closed p m x); is_open = false }
+
+abbrev pub let_test : Pos → List DeclTree → ExprTree → Part
+let_test at ds e = part.Test (let_exp at ds e)
+
+abbrev pub case_operand : Pos → ExprTree → List AltTree → Operand
+case_operand at e xs = operand.Closed (closed.Case at e xs)
+
+abbrev pub do_operand : Pos → List StmtTree → Operand
+do_operand at ss = operand.Closed (closed.Do at ss)
+
+abbrev pub apply_operand : Pos → AexpTree → List AexpTree → Operand
+apply_operand at h xs = operand.Closed (closed.Apply at h xs)
+
+abbrev pub tuple_of : Pos → List ExprTree → AexpTree
+tuple_of at es = aexp.Tuple at es
+
+abbrev pub list_of : Pos → List ExprTree → AexpTree
+list_of at es = aexp.List at es
+
+abbrev pub range_of : Pos → ExprTree → Option ExprTree → Option ExprTree → AexpTree
+range_of at e x z = aexp.Range at e x z
+
+abbrev pub comprehension_of : Pos → ExprTree → List QualTree → AexpTree
+comprehension_of at e qs = aexp.Comprehension at e qs
+
+abbrev pub left_section_of : Pos → ChainTree → QopTree → AexpTree
+left_section_of at c q = aexp.LeftSection at c q
+
+abbrev pub right_section_of : Pos → QopTree → ChainTree → AexpTree
+right_section_of at q c = aexp.RightSection at q c
+
+abbrev pub let_guard_of : Pos → List DeclTree → GuardTree
+let_guard_of at ds = guard.Let at ds
 
 abbrev pub apply_of : Pos → AexpTree → List AexpTree → ClosedTree
 apply_of at h xs = closed.Apply at h xs
@@ -341,6 +428,10 @@ tuple_at r at es ts = and_then (r.exps es ts) (λ all end. with_sign (behind is_
 abbrev pub inside_at : Forms → ℕ → Pos → List Token → Found AexpTree
 inside_at r n at ts = and_then (r.chain false (place ts) [] ts) (λ c rest. or_else_by (section_end_at rest) (λ q end. Some (aexp.LeftSection at c.tree q, end))
     (and_then (typed_at n false (place ts) c rest) (λ e more. tuple_at r at (e ∷ []) more)))
+
+-- the same from behind the first expression on
+abbrev pub tuple_from : Forms → Pos → ExprTree → List Token → Found AexpTree
+tuple_from r at e ts = tuple_at r at (e ∷ []) ts
 
 -- a list, once its first expressions are read
 abbrev pub list_at : Forms → Pos → List ExprTree → List Token → Found AexpTree
