@@ -9,3 +9,5 @@ pub mod Braced
 pub mod Source
 pub mod Columns
 pub mod Written
+pub mod Marks
+pub mod Layout
