@@ -5,3 +5,4 @@ pub mod Balance
 pub mod Moves
 pub mod Flat
 pub mod Settled
+pub mod Lexed
