@@ -6,3 +6,4 @@ pub mod Moves
 pub mod Flat
 pub mod Settled
 pub mod Lexed
+pub mod Shaped
