@@ -414,10 +414,10 @@ end_same (Bottom ls) = refl
 end_same (Within k ls s) = ap (λ z. z ++ (down_to target.End (frames s)).puts) (closing_same k ls (frames s)) ∙ ap (λ z. layout.close k ++ z) (end_same s)
 end_same (Noted n s) = end_notes (add_note (note_for n)) (frames s) ∙ end_same s
 
+end_rest : (f : Frame) (fs gs : List Frame) (b : Bool) → (down_to target.End gs).puts ≡ (down_to target.End fs).puts → (closing f ++ (down_to target.End (if b then fs else gs)).puts) ≡ closing f ++ (down_to target.End fs).puts
+end_rest f fs gs true e = refl
+end_rest f fs gs false e = ap (λ z. closing f ++ z) e
+
 pub end_renewed : (keep : Bool) (fs : List Frame) → (down_to target.End (renew keep fs)).puts ≡ (down_to target.End fs).puts
 end_renewed keep [] = refl
-end_renewed keep (f ∷ fs) = end_rest keep f fs (is_context f.sort)
-  where
-  end_rest : (keep : Bool) (f : Frame) (fs : List Frame) (b : Bool) → (closing f ++ (down_to target.End (if b then fs else renew keep fs)).puts) ≡ closing f ++ (down_to target.End fs).puts
-  end_rest keep f fs true = refl
-  end_rest keep f fs false = ap (λ z. closing f ++ z) (end_renewed keep fs)
+end_renewed keep (f ∷ fs) = end_rest f fs (renew keep fs) (is_context f.sort) (end_renewed keep fs)
