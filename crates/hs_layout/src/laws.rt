@@ -4,13 +4,7 @@ ghost use Rattle.hs_syntax.specs.declared.token.Token.{Token};
 ghost use Rattle.hs_layout.specs.Braced.{braced, start};
 ghost use Rattle.hs_layout.specs.Written.{behind_all, IsInBraces, PutsNoLine};
 ghost use Rattle.hs_layout.specs.Columns.{IsInOrder, in_column, no_column};
-ghost use Rattle.hs_layout.specs.Layout.{laid_out};
 ghost use Rattle.hs_layout.specs.Source.{own, IsSource, signs, level};
-
-/// Layout is the Report's: the marked list and the rules on a stack of frames give what the one pass puts.
-pub fn layout_is_braced()
-    ensures { (ts : List Token) → laid_out ts ≡ braced ts }
-{}
 
 /// With the put signs taken away the tokens are those of the source, in their order.
 pub fn tokens_stay()
