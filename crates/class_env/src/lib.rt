@@ -2,6 +2,8 @@
 #![tactic(auto)]
 
 pub mod choice;
+pub mod entail;
+pub mod given;
 pub mod names;
 pub mod outcome;
 pub mod reduce;
