@@ -4,6 +4,8 @@
 pub mod close;
 pub mod law;
 pub mod look;
+pub mod parse;
 pub mod part;
 pub mod piece;
+pub mod read;
 pub mod tree;
