@@ -420,6 +420,14 @@ simple_by r t ts OpenParen = r.paren t.at ts
 simple_by r t ts OpenSquare = r.bracket t.at ts
 simple_by r t ts _ = None
 
+-- an expression in parentheses or brackets
+abbrev pub nested_at : Forms → List Token → Found AexpTree
+nested_at r ts = with_first ts None (simple_by r)
+
+-- a clause as a declaration
+abbrev pub clause_item_at : Forms → List Token → Found DeclTree
+clause_item_at r ts = and_then (r.clause ts) (λ k rest. Some (clause_decl (place ts) k, rest))
+
 -- expressions in parentheses, once the first are read
 abbrev pub tuple_at : Forms → Pos → List ExprTree → List Token → Found AexpTree
 tuple_at r at es ts = and_then (r.exps es ts) (λ all end. with_sign (behind is_close_paren end) (aexp.Tuple at all))

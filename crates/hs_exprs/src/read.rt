@@ -179,16 +179,19 @@ fn let_in<'a>(
     if left == 0 {
         return Ok(None);
     }
-    match block(alloc, left - 1, tokens)? {
+    match opened(tokens) {
         None => Ok(None),
-        Some((decls, rest)) => match behind_in(rest) {
+        Some((put, inside)) => match decls(alloc, left - 1, put, inside)? {
             None => Ok(None),
-            Some(more) => match exp(alloc, left - 1, tail, more)? {
+            Some((decls, rest)) => match behind_in(rest) {
                 None => Ok(None),
-                Some((body, end)) => Ok(Some((
-                    Operand::Open(OpenTree::Let { at, decls, body }),
-                    end,
-                ))),
+                Some(more) => match exp(alloc, left - 1, tail, more)? {
+                    None => Ok(None),
+                    Some((body, end)) => Ok(Some((
+                        Operand::Open(OpenTree::Let { at, decls, body }),
+                        end,
+                    ))),
+                },
             },
         },
     }
@@ -357,26 +360,13 @@ fn apply<'a>(alloc: Global, left: usize, tokens: &'a [Token]) -> Found<'a, Opera
     if left == 0 {
         return Ok(None);
     }
-    match aexp(alloc, left - 1, tokens)? {
-        None => Ok(None),
-        Some((head, rest)) => args(alloc, left - 1, place_of(tokens), head, rest),
-    }
-}
-
-/// What an atomic expression at a place is applied to.
-#[cycle(expression)]
-fn args<'a>(
-    alloc: Global,
-    left: usize,
-    at: Pos,
-    head: Boxed<AexpTree>,
-    tokens: &'a [Token],
-) -> Found<'a, Operand>
-    ensures { IfOk result (λ r. seen r ≡ (spec.forms left).args at head [] tokens.now) }
-{
+    let mut left = left - 1;
+    let at = place_of(tokens);
+    let (head, mut rest) = match aexp(alloc, left, tokens)? {
+        None => return Ok(None),
+        Some(found) => found,
+    };
     let mut args = Vec::new(alloc);
-    let mut left = left;
-    let mut rest = tokens;
     while left > 0 {
         left -= 1;
         if !begins_aexp(rest) {
@@ -487,11 +477,19 @@ fn simple<'a>(alloc: Global, left: usize, tokens: &'a [Token]) -> Found<'a, Boxe
     if found.is_some() {
         return Ok(found);
     }
+    nested(alloc, left - 1, tokens)
+}
+
+/// An atomic expression in parentheses or brackets.
+#[cycle(expression)]
+fn nested<'a>(alloc: Global, left: usize, tokens: &'a [Token]) -> Found<'a, Boxed<AexpTree>>
+    ensures { IfOk result (λ r. seen r ≡ spec.nested_at (spec.forms left) tokens.now) }
+{
     match first_of(tokens) {
         None => Ok(None),
         Some(first) => match first.sign {
-            Sign::OpenParen => paren(alloc, left - 1, first.token.at, first.rest),
-            Sign::OpenSquare => bracket(alloc, left - 1, first.token.at, first.rest),
+            Sign::OpenParen => paren(alloc, left, first.token.at, first.rest),
+            Sign::OpenSquare => bracket(alloc, left, first.token.at, first.rest),
             _ => Ok(None),
         },
     }
@@ -1061,7 +1059,15 @@ pub fn decl<'a>(alloc: Global, left: usize, tokens: &'a [Token]) -> Found<'a, Bo
     if found.is_some() {
         return Ok(found);
     }
-    match clause(alloc, left - 1, tokens)? {
+    clause_item(alloc, left - 1, tokens)
+}
+
+/// A clause as a declaration.
+#[cycle(expression)]
+fn clause_item<'a>(alloc: Global, left: usize, tokens: &'a [Token]) -> Found<'a, Boxed<DeclTree>>
+    ensures { IfOk result (λ r. seen r ≡ spec.clause_item_at (spec.forms left) tokens.now) }
+{
+    match clause(alloc, left, tokens)? {
         None => Ok(None),
         Some((clause, rest)) => {
             let made = clause_decl(alloc, place_of(tokens), clause)?;

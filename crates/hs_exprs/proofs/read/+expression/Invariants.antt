@@ -1,4 +1,5 @@
 use Rattle.std.proofs.Common.{◌≡◌, ◌≤◌, ◌+◌, ◌*◌, [], false}
+use Rattle.hs_parts.specs.Names.{place}
 use Rattle.hs_exprs.specs.Expressions.{forms}
 use Rattle.hs_exprs.proofs.read.+expression.Given as goal
 
@@ -34,9 +35,6 @@ decreases-stmts l = 3 * l.left
 
 abbrev pub decreases-apply : goal.decreases-apply
 decreases-apply l = 3 * l.left
-
-abbrev pub decreases-args : goal.decreases-args
-decreases-args l = 3 * l.left
 
 abbrev pub decreases-aexp : goal.decreases-aexp
 decreases-aexp l = 3 * l.left
@@ -110,6 +108,12 @@ decreases-decl l = 3 * l.left
 abbrev pub decreases-clause : goal.decreases-clause
 decreases-clause l = 3 * l.left
 
+abbrev pub decreases-nested : goal.decreases-nested
+decreases-nested l = 3 * l.left + 1
+
+abbrev pub decreases-clause_item : goal.decreases-clause_item
+decreases-clause_item l = 3 * l.left + 1
+
 abbrev pub decreases-block : goal.decreases-block
 decreases-block l = 3 * l.left + 1
 
@@ -143,11 +147,11 @@ invariant-stmts-loop-left l = (l.left ≤ l.fn.left) × ((forms l.left).stmts l.
 abbrev pub decreases-stmts-loop-left : goal.decreases-stmts-loop-left
 decreases-stmts-loop-left l = l.left
 
-abbrev pub invariant-args-loop-left : goal.invariant-args-loop-left
-invariant-args-loop-left l = (l.left ≤ l.fn.left) × ((forms l.left).args l.fn.at l.fn.head l.args.items l.rest ≡ (forms l.fn.left).args l.fn.at l.fn.head [] l.fn.tokens)
+abbrev pub invariant-apply-loop-left : goal.invariant-apply-loop-left
+invariant-apply-loop-left l = (l.left ≤ l.fn.left) × ((forms l.left).args (place l.fn.tokens) l.head l.args.items l.rest ≡ (forms l.fn.left).apply l.fn.tokens)
 
-abbrev pub decreases-args-loop-left : goal.decreases-args-loop-left
-decreases-args-loop-left l = l.left
+abbrev pub decreases-apply-loop-left : goal.decreases-apply-loop-left
+decreases-apply-loop-left l = l.left
 
 abbrev pub invariant-updates-loop-left : goal.invariant-updates-loop-left
 invariant-updates-loop-left l = (l.left ≤ l.fn.left) × ((forms l.left).updates l.fn.at l.fn.tree l.updates.items l.rest ≡ (forms l.fn.left).updates l.fn.at l.fn.tree [] l.fn.tokens)
