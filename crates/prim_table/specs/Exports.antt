@@ -1,0 +1,188 @@
+-- What `Prim` exports: its values, constructors, types and classes by name. Names of special syntax are always there, and
+-- not exported. Each part is put behind what stands in front of it.
+use Rattle.std.specs.Prelude.{ℕ, List, [], Some, None, codes}
+use Rattle.mk_base.specs.declared.name.Space.{Space}
+use Rattle.mk_base.specs.declared.name.Space.TheVariants as spaces
+use Rattle.face_model.specs.declared.export.Export.{Export}
+use Rattle.prim_table.specs.Spelled.{◌⊳◌, own, type_name}
+
+abbrev pub alone : Space → List ℕ → Export
+alone s occ = record { name = own s occ; parent = None }
+
+abbrev pub of : Space → List ℕ → List ℕ → Export
+of s occ parent = record { name = own s occ; parent = Some (type_name parent) }
+
+abbrev pub value : List ℕ → Export
+value occ = alone spaces.Var occ
+
+abbrev pub method : List ℕ → List ℕ → Export
+method occ class = of spaces.Var occ class
+
+abbrev pub constructor : List ℕ → List ℕ → Export
+constructor occ type = of spaces.Con occ type
+
+abbrev pub named : List ℕ → Export
+named occ = alone spaces.Ty occ
+
+abbrev pub first_values : List Export → List Export
+first_values out =
+    out
+    ⊳ method (codes "*") (codes "Num")
+    ⊳ method (codes "**") (codes "Floating")
+    ⊳ method (codes "+") (codes "Num")
+    ⊳ method (codes "-") (codes "Num")
+    ⊳ method (codes "/") (codes "Fractional")
+    ⊳ method (codes "/=") (codes "Eq")
+    ⊳ method (codes "<") (codes "Ord")
+    ⊳ method (codes "<=") (codes "Ord")
+    ⊳ method (codes "==") (codes "Eq")
+    ⊳ method (codes ">") (codes "Ord")
+
+abbrev pub second_values : List Export → List Export
+second_values out =
+    out
+    ⊳ method (codes ">=") (codes "Ord")
+    ⊳ method (codes ">>") (codes "Monad")
+    ⊳ method (codes ">>=") (codes "Monad")
+    ⊳ method (codes "abs") (codes "Num")
+    ⊳ method (codes "acos") (codes "Floating")
+    ⊳ method (codes "acosh") (codes "Floating")
+    ⊳ value (codes "appendFile")
+    ⊳ method (codes "asin") (codes "Floating")
+    ⊳ method (codes "asinh") (codes "Floating")
+    ⊳ method (codes "atan") (codes "Floating")
+
+abbrev pub third_values : List Export → List Export
+third_values out =
+    out
+    ⊳ method (codes "atanh") (codes "Floating")
+    ⊳ method (codes "ceiling") (codes "RealFrac")
+    ⊳ method (codes "compare") (codes "Ord")
+    ⊳ method (codes "cos") (codes "Floating")
+    ⊳ method (codes "cosh") (codes "Floating")
+    ⊳ method (codes "div") (codes "Integral")
+    ⊳ method (codes "divMod") (codes "Integral")
+    ⊳ method (codes "enumFrom") (codes "Enum")
+    ⊳ method (codes "enumFromThen") (codes "Enum")
+    ⊳ method (codes "enumFromThenTo") (codes "Enum")
+
+abbrev pub fourth_values : List Export → List Export
+fourth_values out =
+    out
+    ⊳ method (codes "enumFromTo") (codes "Enum")
+    ⊳ value (codes "error")
+    ⊳ method (codes "exp") (codes "Floating")
+    ⊳ method (codes "fail") (codes "Monad")
+    ⊳ method (codes "floor") (codes "RealFrac")
+    ⊳ method (codes "fmap") (codes "Functor")
+    ⊳ method (codes "fromEnum") (codes "Enum")
+    ⊳ method (codes "fromInteger") (codes "Num")
+    ⊳ method (codes "fromRational") (codes "Fractional")
+    ⊳ value (codes "getChar")
+
+abbrev pub fifth_values : List Export → List Export
+fifth_values out =
+    out
+    ⊳ value (codes "getContents")
+    ⊳ value (codes "getLine")
+    ⊳ method (codes "log") (codes "Floating")
+    ⊳ method (codes "logBase") (codes "Floating")
+    ⊳ method (codes "max") (codes "Ord")
+    ⊳ method (codes "maxBound") (codes "Bounded")
+    ⊳ method (codes "min") (codes "Ord")
+    ⊳ method (codes "minBound") (codes "Bounded")
+    ⊳ method (codes "mod") (codes "Integral")
+    ⊳ method (codes "negate") (codes "Num")
+
+abbrev pub sixth_values : List Export → List Export
+sixth_values out =
+    out
+    ⊳ method (codes "pi") (codes "Floating")
+    ⊳ method (codes "pred") (codes "Enum")
+    ⊳ method (codes "properFraction") (codes "RealFrac")
+    ⊳ value (codes "putChar")
+    ⊳ value (codes "putStr")
+    ⊳ method (codes "quot") (codes "Integral")
+    ⊳ method (codes "quotRem") (codes "Integral")
+    ⊳ value (codes "readFile")
+    ⊳ method (codes "readList") (codes "Read")
+    ⊳ method (codes "readsPrec") (codes "Read")
+
+abbrev pub seventh_values : List Export → List Export
+seventh_values out =
+    out
+    ⊳ method (codes "recip") (codes "Fractional")
+    ⊳ method (codes "rem") (codes "Integral")
+    ⊳ method (codes "return") (codes "Monad")
+    ⊳ method (codes "round") (codes "RealFrac")
+    ⊳ value (codes "seq")
+    ⊳ method (codes "show") (codes "Show")
+    ⊳ method (codes "showList") (codes "Show")
+    ⊳ method (codes "showsPrec") (codes "Show")
+    ⊳ method (codes "signum") (codes "Num")
+    ⊳ method (codes "sin") (codes "Floating")
+
+abbrev pub eighth_values : List Export → List Export
+eighth_values out =
+    out
+    ⊳ method (codes "sinh") (codes "Floating")
+    ⊳ method (codes "sqrt") (codes "Floating")
+    ⊳ method (codes "succ") (codes "Enum")
+    ⊳ method (codes "tan") (codes "Floating")
+    ⊳ method (codes "tanh") (codes "Floating")
+    ⊳ method (codes "toEnum") (codes "Enum")
+    ⊳ method (codes "toInteger") (codes "Integral")
+    ⊳ method (codes "toRational") (codes "Real")
+    ⊳ method (codes "truncate") (codes "RealFrac")
+    ⊳ value (codes "writeFile")
+
+abbrev pub constructors : List Export → List Export
+constructors out =
+    out
+    ⊳ constructor (codes "EQ") (codes "Ordering")
+    ⊳ constructor (codes "False") (codes "Bool")
+    ⊳ constructor (codes "GT") (codes "Ordering")
+    ⊳ constructor (codes "LT") (codes "Ordering")
+    ⊳ constructor (codes "True") (codes "Bool")
+
+abbrev pub first_types : List Export → List Export
+first_types out =
+    out
+    ⊳ named (codes "Bool")
+    ⊳ named (codes "Bounded")
+    ⊳ named (codes "Char")
+    ⊳ named (codes "Double")
+    ⊳ named (codes "Enum")
+    ⊳ named (codes "Eq")
+    ⊳ named (codes "Float")
+    ⊳ named (codes "Floating")
+    ⊳ named (codes "Fractional")
+
+abbrev pub second_types : List Export → List Export
+second_types out =
+    out
+    ⊳ named (codes "Functor")
+    ⊳ named (codes "IO")
+    ⊳ named (codes "Int")
+    ⊳ named (codes "Integer")
+    ⊳ named (codes "Integral")
+    ⊳ named (codes "Monad")
+    ⊳ named (codes "Num")
+    ⊳ named (codes "Ord")
+    ⊳ named (codes "Ordering")
+
+abbrev pub third_types : List Export → List Export
+third_types out =
+    out
+    ⊳ named (codes "Ratio")
+    ⊳ named (codes "Rational")
+    ⊳ named (codes "Read")
+    ⊳ named (codes "ReadS")
+    ⊳ named (codes "Real")
+    ⊳ named (codes "RealFrac")
+    ⊳ named (codes "Show")
+    ⊳ named (codes "ShowS")
+    ⊳ named (codes "String")
+
+abbrev pub exports : List Export
+exports = third_types (second_types (first_types (constructors (eighth_values (seventh_values (sixth_values (fifth_values (fourth_values (third_values (second_values (first_values [])))))))))))

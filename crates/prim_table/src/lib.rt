@@ -1,0 +1,11 @@
+//! The face of the module `Prim`, which every tree has: its types, classes, instances and values.
+#![tactic(auto)]
+
+mod decls;
+mod exports;
+mod insts;
+mod methods;
+mod put;
+mod spelled;
+pub mod table;
+mod types;
