@@ -97,13 +97,16 @@ first_insts =
     (enumerated
     (bounded []))))))
 
+-- up to those of `Ord`
+abbrev pub second_insts : List Inst → List Inst
+second_insts out = compared (codes "Ord") (numeric (codes "Num") (constructors (codes "Monad") out))
+
+-- up to those of `Real`
+abbrev pub third_insts : List Inst → List Inst
+third_insts out = numeric (codes "Real") (printed (codes "Read") out)
+
+abbrev pub fourth_insts : List Inst → List Inst
+fourth_insts out = printed (codes "Show") (fractional (codes "RealFrac") out)
+
 abbrev pub insts : List Inst
-insts =
-    printed (codes "Show")
-    (fractional (codes "RealFrac")
-    (numeric (codes "Real")
-    (printed (codes "Read")
-    (compared (codes "Ord")
-    (numeric (codes "Num")
-    (constructors (codes "Monad")
-    first_insts))))))
+insts = fourth_insts (third_insts (second_insts first_insts))

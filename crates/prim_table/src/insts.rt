@@ -213,17 +213,35 @@ fn first_insts(alloc: Global) -> Result<List<Inst>, NoMemory>
     Ok(out)
 }
 
+fn second_insts(alloc: Global, out: &mut List<Inst>) -> Result<(), NoMemory>
+    ensures { OnOk result (out.new ≡ spec.second_insts out.old) }
+{
+    constructors(alloc, out, b"Monad")?;
+    numeric(alloc, out, b"Num")?;
+    compared(alloc, out, b"Ord")
+}
+
+fn third_insts(alloc: Global, out: &mut List<Inst>) -> Result<(), NoMemory>
+    ensures { OnOk result (out.new ≡ spec.third_insts out.old) }
+{
+    printed(alloc, out, b"Read")?;
+    numeric(alloc, out, b"Real")
+}
+
+fn fourth_insts(alloc: Global, out: &mut List<Inst>) -> Result<(), NoMemory>
+    ensures { OnOk result (out.new ≡ spec.fourth_insts out.old) }
+{
+    fractional(alloc, out, b"RealFrac")?;
+    printed(alloc, out, b"Show")
+}
+
 /// All instances, by class and then by type.
 pub fn insts(alloc: Global) -> Result<List<Inst>, NoMemory>
     ensures { IfOk result (λ is. is ≡ spec.insts) }
 {
     let mut out = first_insts(alloc)?;
-    constructors(alloc, &mut out, b"Monad")?;
-    numeric(alloc, &mut out, b"Num")?;
-    compared(alloc, &mut out, b"Ord")?;
-    printed(alloc, &mut out, b"Read")?;
-    numeric(alloc, &mut out, b"Real")?;
-    fractional(alloc, &mut out, b"RealFrac")?;
-    printed(alloc, &mut out, b"Show")?;
+    second_insts(alloc, &mut out)?;
+    third_insts(alloc, &mut out)?;
+    fourth_insts(alloc, &mut out)?;
     Ok(out)
 }

@@ -1,11 +1,8 @@
-//! The face of the module `Prim`, which every tree has: its types, classes, instances and values.
+//! The face of the module `Prim`, which every tree has: so far its classes' methods, its types and values, and its instances.
 #![tactic(auto)]
 
-mod decls;
-mod exports;
-mod insts;
-mod methods;
+pub mod insts;
+pub mod methods;
 mod put;
 mod spelled;
-pub mod table;
-mod types;
+pub mod types;
