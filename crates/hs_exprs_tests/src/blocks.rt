@@ -51,6 +51,7 @@ fn guarded_alternatives(rt: HostRuntime) -> Result<(), Fail> {
         case x of {y | \\x -> x :: A -> B -> e} ==> (case x (alt y (| (lambda x -> (:: x (-> .A .B))) = e)))\n\
         case x of {y | if a then b else c :: A -> e} ==> (case x (alt y (| (if a b (:: c .A)) = e)))\n\
         case x of {y | z <- \\x -> x :: A -> e} ==> (case x (alt y (| (<- z (lambda x -> (:: x .A))) = e)))\n\
+        case x of {y | \\z -> z :: A -> B, w -> c} ==> (case x (alt y (| (lambda z -> (:: z (-> .A .B))) w = c)))\n\
         case x of {y | (z :: A -> B) -> e} ==> (case x (alt y (| (tuple (:: z (-> .A .B))) = e)))\n\
         case x of {y | a :: A -> e} ==> none\n\
         case x of {y | -> e} ==> none\n\

@@ -1,5 +1,5 @@
 //! Parentheses, sections, lists, ranges, comprehensions and records.
-use crate::rows::run;
+use crate::rows::{run, run_places};
 use std::test::Fail;
 
 /// Expressions in parentheses, and tuples.
@@ -159,5 +159,18 @@ fn records(rt: HostRuntime) -> Result<(), Fail> {
         r {x = 1; y = 2} ==> none\n\
         r {x = 1 ==> none";
     run(&rt, rt.alloc(), ROWS)?;
+    Ok(())
+}
+
+/// Each tree has the column of its first lexeme: a name, what it is, and what has no other part.
+#[test]
+fn places_of_trees(rt: HostRuntime) -> Result<(), Fail> {
+    const ROWS: &str = "\
+        f (- x) ==> (of f@1@1 (tuple (chain - x@6@6@6@4)@4@4)@3)@1@1@1@1\n\
+        \x20x + y ==> (chain x@2@2@2@2 +@4@4 y@6@6@6@6)@2@2\n\
+        [x | y] ==> (each x@2@2@2@2@2@2 | y@6@6@6@6@6@6@6)@1@1@1@1@1\n\
+        do {x} ==> (do x@5@5@5@5@5@5@5)@1@1@1@1\n\
+        r {x = 1} ==> (update r@1@1 {(x@4 = 1@8@8@8@8@8)@4}@3)@1@1@1@1@1";
+    run_places(&rt, rt.alloc(), ROWS)?;
     Ok(())
 }

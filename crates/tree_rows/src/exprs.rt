@@ -336,11 +336,7 @@ fn show_aexps(out: &mut Out, parts: &[AexpTree]) -> Result<(), NoMemory> {
 }
 
 #[cycle(exprs)]
-fn show_end(
-    out: &mut Out,
-    word: &[u8],
-    end: &Option<Boxed<ExprTree>>,
-) -> Result<(), NoMemory> {
+fn show_end(out: &mut Out, word: &[u8], end: &Option<Boxed<ExprTree>>) -> Result<(), NoMemory> {
     match end {
         None => Ok(()),
         Some(tree) => {
