@@ -191,11 +191,11 @@ fn all_values(rt: HostRuntime) -> Result<(), Fail> {
         appendFile 0 :: ((Prim.-> (Prim.[] Prim.Char)) ((Prim.-> (Prim.[] Prim.Char)) (Prim.IO Prim.())))\n\
         error 1 :: ((Prim.-> (Prim.[] Prim.Char)) t0)\n\
         getChar 0 :: (Prim.IO Prim.Char)\n\
-        getContents 0 :: (Prim.IO Prim.String)\n\
-        getLine 0 :: (Prim.IO Prim.String)\n\
+        getContents 0 :: (Prim.IO (Prim.[] Prim.Char))\n\
+        getLine 0 :: (Prim.IO (Prim.[] Prim.Char))\n\
         putChar 0 :: ((Prim.-> Prim.Char) (Prim.IO Prim.()))\n\
         putStr 0 :: ((Prim.-> (Prim.[] Prim.Char)) (Prim.IO Prim.()))\n\
-        readFile 0 :: ((Prim.-> (Prim.[] Prim.Char)) (Prim.IO Prim.String))\n\
+        readFile 0 :: ((Prim.-> (Prim.[] Prim.Char)) (Prim.IO (Prim.[] Prim.Char)))\n\
         seq 2 :: ((Prim.-> t0) ((Prim.-> t1) t1))\n\
         writeFile 0 :: ((Prim.-> (Prim.[] Prim.Char)) ((Prim.-> (Prim.[] Prim.Char)) (Prim.IO Prim.())))\n";
     run(&rt, rt.alloc(), Part::Values, ROWS)?;

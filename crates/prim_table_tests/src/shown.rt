@@ -10,8 +10,8 @@ use mk_base::ty::print_ty;
 
 /// Whether a name is of the unit `prim`, its module `Prim`, and a space.
 fn is_own(name: &Name, space: Space) -> bool {
-    name.unit.text.as_slice() == b"prim"
-        && name.module.text.as_slice() == b"Prim"
+    name.unit.text.as_slice() == b"prim".as_slice()
+        && name.module.text.as_slice() == b"Prim".as_slice()
         && name.occ.space == space
 }
 
