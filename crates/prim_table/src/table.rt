@@ -1,5 +1,6 @@
 //! The face of the module `Prim` (Haskell 2010 Report, chapters 6 and 9).
 ghost use Rattle.std.specs.Prelude.{◌≡◌, IfOk};
+ghost use Rattle.face_model.specs.Formed.{FaceFormed};
 ghost use Rattle.prim_table.specs.Table as spec;
 
 use crate::decls::decls;
@@ -32,3 +33,9 @@ pub fn prim_face(alloc: Global) -> Result<Face, NoMemory>
         exports,
     })
 }
+
+/// In the face each type variable is below the count of its scheme or of its list of kinds, and each constraint of an
+/// instance is on one of its variables.
+pub fn prim_face_is_formed()
+    ensures { FaceFormed spec.prim_face }
+{}
