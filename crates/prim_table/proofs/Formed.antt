@@ -71,7 +71,7 @@ bound_as g c cs =
     else (if nat_lt c 58 then (c - 48 + 1, cs)
     else (0, cs)))))
 
-bound : ℕ → List ℕ → Bound
+abbrev bound : ℕ → List ℕ → Bound
 bound zero cs = (0, cs)
 bound (suc n) [] = (0, [])
 bound (suc n) (c ∷ cs) = bound_as (bound n) c cs

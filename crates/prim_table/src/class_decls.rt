@@ -72,6 +72,35 @@ fn two_supers(alloc: Global, class: &[u8], other: &[u8]) -> Result<List<Name>, N
     Ok(supers)
 }
 
+/// A class of types below one class.
+fn class_below(
+    alloc: Global,
+    out: &mut List<Decl>,
+    occ: &[u8],
+    above: &[u8],
+    methods: List<Method>,
+) -> Result<(), NoMemory>
+    ensures { OnOk result (out.new ≡ out.old ++ classes.class occ.now (classes.one_super above.now) methods ∷ []) }
+{
+    let supers = one_super(alloc, above)?;
+    class(alloc, out, occ, supers, methods)
+}
+
+/// A class of types below two classes.
+fn class_below_two(
+    alloc: Global,
+    out: &mut List<Decl>,
+    occ: &[u8],
+    above: &[u8],
+    other: &[u8],
+    methods: List<Method>,
+) -> Result<(), NoMemory>
+    ensures { OnOk result (out.new ≡ out.old ++ classes.class occ.now (classes.two_supers above.now other.now) methods ∷ []) }
+{
+    let supers = two_supers(alloc, above, other)?;
+    class(alloc, out, occ, supers, methods)
+}
+
 /// The class `Bounded`.
 pub fn bounded_class(alloc: Global, out: &mut List<Decl>) -> Result<(), NoMemory>
     ensures { OnOk result (out.new ≡ out.old ++ classes.bounded_class ∷ []) }
@@ -100,18 +129,16 @@ pub fn eq_class(alloc: Global, out: &mut List<Decl>) -> Result<(), NoMemory>
 pub fn floating_class(alloc: Global, out: &mut List<Decl>) -> Result<(), NoMemory>
     ensures { OnOk result (out.new ≡ out.old ++ classes.floating_class ∷ []) }
 {
-    let supers = one_super(alloc, b"Fractional")?;
     let methods = floating_methods(alloc)?;
-    class(alloc, out, b"Floating", supers, methods)
+    class_below(alloc, out, b"Floating", b"Fractional", methods)
 }
 
 /// The class `Fractional`.
 pub fn fractional_class(alloc: Global, out: &mut List<Decl>) -> Result<(), NoMemory>
     ensures { OnOk result (out.new ≡ out.old ++ classes.fractional_class ∷ []) }
 {
-    let supers = one_super(alloc, b"Num")?;
     let methods = fractional_methods(alloc)?;
-    class(alloc, out, b"Fractional", supers, methods)
+    class_below(alloc, out, b"Fractional", b"Num", methods)
 }
 
 /// The class `Functor`.
@@ -126,9 +153,8 @@ pub fn functor_class(alloc: Global, out: &mut List<Decl>) -> Result<(), NoMemory
 pub fn integral_class(alloc: Global, out: &mut List<Decl>) -> Result<(), NoMemory>
     ensures { OnOk result (out.new ≡ out.old ++ classes.integral_class ∷ []) }
 {
-    let supers = two_supers(alloc, b"Real", b"Enum")?;
     let methods = integral_methods(alloc)?;
-    class(alloc, out, b"Integral", supers, methods)
+    class_below_two(alloc, out, b"Integral", b"Real", b"Enum", methods)
 }
 
 /// The class `Monad`.
@@ -151,9 +177,8 @@ pub fn num_class(alloc: Global, out: &mut List<Decl>) -> Result<(), NoMemory>
 pub fn ord_class(alloc: Global, out: &mut List<Decl>) -> Result<(), NoMemory>
     ensures { OnOk result (out.new ≡ out.old ++ classes.ord_class ∷ []) }
 {
-    let supers = one_super(alloc, b"Eq")?;
     let methods = ord_methods(alloc)?;
-    class(alloc, out, b"Ord", supers, methods)
+    class_below(alloc, out, b"Ord", b"Eq", methods)
 }
 
 /// The class `Read`.
@@ -168,18 +193,16 @@ pub fn read_class(alloc: Global, out: &mut List<Decl>) -> Result<(), NoMemory>
 pub fn real_class(alloc: Global, out: &mut List<Decl>) -> Result<(), NoMemory>
     ensures { OnOk result (out.new ≡ out.old ++ classes.real_class ∷ []) }
 {
-    let supers = two_supers(alloc, b"Num", b"Ord")?;
     let methods = real_methods(alloc)?;
-    class(alloc, out, b"Real", supers, methods)
+    class_below_two(alloc, out, b"Real", b"Num", b"Ord", methods)
 }
 
 /// The class `RealFrac`.
 pub fn real_frac_class(alloc: Global, out: &mut List<Decl>) -> Result<(), NoMemory>
     ensures { OnOk result (out.new ≡ out.old ++ classes.real_frac_class ∷ []) }
 {
-    let supers = two_supers(alloc, b"Real", b"Fractional")?;
     let methods = real_frac_methods(alloc)?;
-    class(alloc, out, b"RealFrac", supers, methods)
+    class_below_two(alloc, out, b"RealFrac", b"Real", b"Fractional", methods)
 }
 
 /// The class `Show`.

@@ -8,7 +8,7 @@ use crate::class_decls::{
     show_class,
 };
 use crate::types::{constant, data_type, lists, opaque, synonym, tuples, values};
-use face_model::decl::Decl;
+use face_model::decl::{Constr, Decl};
 use mk_base::list::List;
 use mk_base::memory::NoMemory;
 use std::alloc::Global;
@@ -22,13 +22,25 @@ fn booleans(alloc: Global, out: &mut List<Decl>) -> Result<(), NoMemory>
     data_type(alloc, out, b"Bool", 0, constrs)
 }
 
+fn three_constants(
+    alloc: Global,
+    first: &[u8],
+    second: &[u8],
+    third: &[u8],
+) -> Result<List<Constr>, NoMemory>
+    ensures { IfOk result (λ cs. cs ≡ spec.constant first.now ∷ spec.constant second.now ∷ spec.constant third.now ∷ []) }
+{
+    let mut constrs = List::new(alloc);
+    constant(alloc, &mut constrs, first)?;
+    constant(alloc, &mut constrs, second)?;
+    constant(alloc, &mut constrs, third)?;
+    Ok(constrs)
+}
+
 fn orderings(alloc: Global, out: &mut List<Decl>) -> Result<(), NoMemory>
     ensures { OnOk result (out.new ≡ out.old ++ spec.orderings ∷ []) }
 {
-    let mut constrs = List::new(alloc);
-    constant(alloc, &mut constrs, b"LT")?;
-    constant(alloc, &mut constrs, b"EQ")?;
-    constant(alloc, &mut constrs, b"GT")?;
+    let constrs = three_constants(alloc, b"LT", b"EQ", b"GT")?;
     data_type(alloc, out, b"Ordering", 0, constrs)
 }
 

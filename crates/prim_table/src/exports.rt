@@ -45,10 +45,38 @@ fn method(alloc: Global, out: &mut List<Export>, occ: &[u8], class: &[u8]) -> Re
     of(alloc, out, Space::Var, occ, class)
 }
 
+fn two_methods(
+    alloc: Global,
+    out: &mut List<Export>,
+    occ: &[u8],
+    class: &[u8],
+    next: &[u8],
+    class_of_next: &[u8],
+) -> Result<(), NoMemory>
+    ensures { OnOk result (out.new ≡ (out.old ++ spec.method occ.now class.now ∷ []) ++ spec.method next.now class_of_next.now ∷ []) }
+{
+    method(alloc, out, occ, class)?;
+    method(alloc, out, next, class_of_next)
+}
+
 fn constructor(alloc: Global, out: &mut List<Export>, occ: &[u8], ty: &[u8]) -> Result<(), NoMemory>
     ensures { OnOk result (out.new ≡ out.old ++ spec.constructor occ.now ty.now ∷ []) }
 {
     of(alloc, out, Space::Con, occ, ty)
+}
+
+fn two_constructors(
+    alloc: Global,
+    out: &mut List<Export>,
+    occ: &[u8],
+    ty: &[u8],
+    next: &[u8],
+    type_of_next: &[u8],
+) -> Result<(), NoMemory>
+    ensures { OnOk result (out.new ≡ (out.old ++ spec.constructor occ.now ty.now ∷ []) ++ spec.constructor next.now type_of_next.now ∷ []) }
+{
+    constructor(alloc, out, occ, ty)?;
+    constructor(alloc, out, next, type_of_next)
 }
 
 fn named(alloc: Global, out: &mut List<Export>, occ: &[u8]) -> Result<(), NoMemory>
@@ -92,18 +120,15 @@ fn fourth_values(alloc: Global, out: &mut List<Export>) -> Result<(), NoMemory>
 {
     method(alloc, out, b"acosh", b"Floating")?;
     value(alloc, out, b"appendFile")?;
-    method(alloc, out, b"asin", b"Floating")?;
-    method(alloc, out, b"asinh", b"Floating")?;
+    two_methods(alloc, out, b"asin", b"Floating", b"asinh", b"Floating")?;
     method(alloc, out, b"atan", b"Floating")
 }
 
 fn fifth_values(alloc: Global, out: &mut List<Export>) -> Result<(), NoMemory>
     ensures { OnOk result (out.new ≡ spec.fifth_values out.old) }
 {
-    method(alloc, out, b"atanh", b"Floating")?;
-    method(alloc, out, b"ceiling", b"RealFrac")?;
-    method(alloc, out, b"compare", b"Ord")?;
-    method(alloc, out, b"cos", b"Floating")?;
+    two_methods(alloc, out, b"atanh", b"Floating", b"ceiling", b"RealFrac")?;
+    two_methods(alloc, out, b"compare", b"Ord", b"cos", b"Floating")?;
     method(alloc, out, b"cosh", b"Floating")
 }
 
@@ -150,10 +175,8 @@ fn ninth_values(alloc: Global, out: &mut List<Export>) -> Result<(), NoMemory>
 fn tenth_values(alloc: Global, out: &mut List<Export>) -> Result<(), NoMemory>
     ensures { OnOk result (out.new ≡ spec.tenth_values out.old) }
 {
-    method(alloc, out, b"maxBound", b"Bounded")?;
-    method(alloc, out, b"min", b"Ord")?;
-    method(alloc, out, b"minBound", b"Bounded")?;
-    method(alloc, out, b"mod", b"Integral")?;
+    two_methods(alloc, out, b"maxBound", b"Bounded", b"min", b"Ord")?;
+    two_methods(alloc, out, b"minBound", b"Bounded", b"mod", b"Integral")?;
     method(alloc, out, b"negate", b"Num")
 }
 
@@ -200,10 +223,8 @@ fn fourteenth_values(alloc: Global, out: &mut List<Export>) -> Result<(), NoMemo
 fn fifteenth_values(alloc: Global, out: &mut List<Export>) -> Result<(), NoMemory>
     ensures { OnOk result (out.new ≡ spec.fifteenth_values out.old) }
 {
-    method(alloc, out, b"sinh", b"Floating")?;
-    method(alloc, out, b"sqrt", b"Floating")?;
-    method(alloc, out, b"succ", b"Enum")?;
-    method(alloc, out, b"tan", b"Floating")?;
+    two_methods(alloc, out, b"sinh", b"Floating", b"sqrt", b"Floating")?;
+    two_methods(alloc, out, b"succ", b"Enum", b"tan", b"Floating")?;
     method(alloc, out, b"tanh", b"Floating")
 }
 
@@ -327,10 +348,8 @@ fn values(alloc: Global, out: &mut List<Export>) -> Result<(), NoMemory>
 fn constructors(alloc: Global, out: &mut List<Export>) -> Result<(), NoMemory>
     ensures { OnOk result (out.new ≡ spec.constructors out.old) }
 {
-    constructor(alloc, out, b"EQ", b"Ordering")?;
-    constructor(alloc, out, b"False", b"Bool")?;
-    constructor(alloc, out, b"GT", b"Ordering")?;
-    constructor(alloc, out, b"LT", b"Ordering")?;
+    two_constructors(alloc, out, b"EQ", b"Ordering", b"False", b"Bool")?;
+    two_constructors(alloc, out, b"GT", b"Ordering", b"LT", b"Ordering")?;
     constructor(alloc, out, b"True", b"Bool")
 }
 
