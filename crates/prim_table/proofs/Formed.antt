@@ -1,9 +1,10 @@
 -- The face of `Prim` is well formed: how many variables a spelling reaches, and each declaration and instance in turn.
-use Rattle.std.proofs.Common.{◌≡◌, ℕ, zero, suc, ◌+◌, ◌-◌, ◌<◌, ◌≤◌, Bool, true, false, List, [], ◌∷◌, ◌++◌, length, Option, Some, refl, sym, ap, ◌∙◌, subst, arith}
+use Rattle.std.proofs.Common.{◌≡◌, ℕ, zero, suc, ◌+◌, ◌-◌, ◌<◌, ◌≤◌, Bool, true, false, List, [], ◌∷◌, ◌++◌, length, Option, Some, refl, sym, ap, ◌∙◌, subst, arith, length-append}
 use Rattle.std.specs.Prelude.{codes, max, leb, nat_eq, nat_lt, if◌then◌else◌}
 use Rattle.std.specs.List.{AllByRecursion}
 use Rattle.std.proofs.lemmas.Bool.{leb-true}
 use Rattle.mk_base.specs.declared.name.Name.{Name}
+use Rattle.mk_base.specs.declared.kind.Kind.TheVariants as kinds
 use Rattle.mk_base.specs.declared.ty.Ty.{Ty}
 use Rattle.mk_base.specs.declared.ty.Ty.TheOpen.Ty-F.{Var, Con, App}
 use Rattle.mk_base.specs.declared.ty.Ty.TheVariants as types
@@ -358,7 +359,10 @@ put ds d p q = more DeclFormed ds d p q
 length_stars : (n : ℕ) → length (t.stars n) ≡ n
 unfolding t.stars
 length_stars zero = refl
-length_stars (suc n) = search (rules, length_stars n)
+length_stars (suc n) =
+    let long : length (t.stars n ++ kinds.Star ∷ []) ≡ length (t.stars n) + 1 = length-append (t.stars n) (kinds.Star ∷ []) in
+    let all : length (t.stars n ++ kinds.Star ∷ []) ≡ suc n = omega (arith, long, length_stars n) in
+    all
 
 fields_formed : (count n : ℕ) → n ≤ count → AllByRecursion (FieldFormed count) (t.fields n)
 unfolding t.fields

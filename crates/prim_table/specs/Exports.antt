@@ -60,14 +60,15 @@ fourth_values out =
     ⊳ method (codes "asinh") (codes "Floating")
     ⊳ method (codes "atan") (codes "Floating")
 
-abbrev pub fifth_values : List Export → List Export
-fifth_values out =
+abbrev pub compare_and_cosines : List Export → List Export
+compare_and_cosines out =
     out
-    ⊳ method (codes "atanh") (codes "Floating")
-    ⊳ method (codes "ceiling") (codes "RealFrac")
     ⊳ method (codes "compare") (codes "Ord")
     ⊳ method (codes "cos") (codes "Floating")
     ⊳ method (codes "cosh") (codes "Floating")
+
+abbrev pub fifth_values : List Export → List Export
+fifth_values out = compare_and_cosines (out ⊳ method (codes "atanh") (codes "Floating") ⊳ method (codes "ceiling") (codes "RealFrac"))
 
 abbrev pub sixth_values : List Export → List Export
 sixth_values out =

@@ -124,12 +124,18 @@ fn fourth_values(alloc: Global, out: &mut List<Export>) -> Result<(), NoMemory>
     method(alloc, out, b"atan", b"Floating")
 }
 
+fn compare_and_cosines(alloc: Global, out: &mut List<Export>) -> Result<(), NoMemory>
+    ensures { OnOk result (out.new ≡ spec.compare_and_cosines out.old) }
+{
+    method(alloc, out, b"compare", b"Ord")?;
+    two_methods(alloc, out, b"cos", b"Floating", b"cosh", b"Floating")
+}
+
 fn fifth_values(alloc: Global, out: &mut List<Export>) -> Result<(), NoMemory>
     ensures { OnOk result (out.new ≡ spec.fifth_values out.old) }
 {
     two_methods(alloc, out, b"atanh", b"Floating", b"ceiling", b"RealFrac")?;
-    two_methods(alloc, out, b"compare", b"Ord", b"cos", b"Floating")?;
-    method(alloc, out, b"cosh", b"Floating")
+    compare_and_cosines(alloc, out)
 }
 
 fn sixth_values(alloc: Global, out: &mut List<Export>) -> Result<(), NoMemory>
