@@ -1,5 +1,5 @@
 -- The face of `Prim` is well formed: how many variables a spelling reaches, and each declaration and instance in turn.
-use Rattle.std.proofs.Common.{◌≡◌, ℕ, zero, suc, ◌+◌, ◌-◌, ◌<◌, ◌≤◌, Bool, true, false, List, [], ◌∷◌, ◌++◌, length, Option, Some, refl, sym, ap, ◌∙◌, subst, arith, length-append}
+use Rattle.std.proofs.Common.{◌≡◌, ℕ, zero, suc, ◌+◌, ◌-◌, ◌<◌, ◌≤◌, Bool, true, false, List, [], ◌∷◌, ◌++◌, length, refl, sym, ap, ◌∙◌, subst, arith, length-append}
 use Rattle.std.specs.Prelude.{codes, max, leb, nat_eq, nat_lt, if◌then◌else◌}
 use Rattle.std.specs.List.{AllByRecursion}
 use Rattle.std.proofs.lemmas.Bool.{leb-true}
@@ -11,11 +11,10 @@ use Rattle.mk_base.specs.declared.ty.Ty.TheVariants as types
 use Rattle.mk_base.specs.declared.ty.Ty.TheVariants.{rolls-Var, rolls-Con, rolls-App}
 use Rattle.mk_base.specs.declared.ty.Ty.TheFolds.{fold-roll-Ty}
 use Rattle.face_model.specs.declared.decl.Decl.{Decl}
-use Rattle.face_model.specs.declared.decl.Field.{Field}
 use Rattle.face_model.specs.declared.decl.Method.{Method}
 use Rattle.face_model.specs.declared.inst.Inst.{Inst}
 use Rattle.face_model.specs.declared.scheme.Constraint.{Constraint}
-use Rattle.face_model.specs.Formed.{vars_of, vars_step, IsBelow, ConstraintFormed, FieldFormed, ConstrFormed, MethodFormed, DeclFormed, OnVariable, InstFormed, FaceFormed}
+use Rattle.face_model.specs.Formed.{vars_of, vars_step, IsBelow, ConstraintFormed, FieldFormed, MethodFormed, DeclFormed, OnVariable, InstFormed, FaceFormed}
 use Rattle.prim_table.specs.Spelled.{Read, read, read_as, one, two, con, list, pair, function, applied, spelled, letter, on, type_name, ◌⊳◌}
 use Rattle.prim_table.specs.Classes as classes
 use Rattle.prim_table.specs.Types as t
