@@ -1,5 +1,5 @@
 -- What the reader of types does with steps left, and without, and lists by their counts.
-use Rattle.std.proofs.Common.{◌≡◌, ℕ, suc, zero, ◌+◌, ◌-◌, ◌<◌, List, [], ◌∷◌, ◌++◌, length, refl, ap, arith}
+use Rattle.std.proofs.Common.{◌≡◌, ℕ, suc, zero, ◌-◌, ◌<◌, List, [], ◌∷◌, ◌++◌, length, refl, ap, arith}
 use Rattle.std.specs.Prelude.{codes}
 use Rattle.mk_base.specs.declared.kind.Kind.TheVariants as kinds
 use Rattle.mk_base.specs.declared.ty.Ty.TheVariants as types

@@ -157,3 +157,51 @@ class occ supers methods = class_over star occ supers methods
 
 abbrev pub class_of_constructors : List ℕ → List Method → Decl
 class_of_constructors occ methods = class_over (kinds.Arrow kinds.Star kinds.Star) occ [] methods
+
+abbrev pub one_super : List ℕ → List Name
+one_super class = type_name class ∷ []
+
+abbrev pub two_supers : List ℕ → List ℕ → List Name
+two_supers class other = type_name class ∷ type_name other ∷ []
+
+abbrev pub bounded_class : Decl
+bounded_class = class (codes "Bounded") [] bounded_methods
+
+abbrev pub enum_class : Decl
+enum_class = class (codes "Enum") [] enum_methods
+
+abbrev pub eq_class : Decl
+eq_class = class (codes "Eq") [] eq_methods
+
+abbrev pub floating_class : Decl
+floating_class = class (codes "Floating") (one_super (codes "Fractional")) floating_methods
+
+abbrev pub fractional_class : Decl
+fractional_class = class (codes "Fractional") (one_super (codes "Num")) fractional_methods
+
+abbrev pub functor_class : Decl
+functor_class = class_of_constructors (codes "Functor") functor_methods
+
+abbrev pub integral_class : Decl
+integral_class = class (codes "Integral") (two_supers (codes "Real") (codes "Enum")) integral_methods
+
+abbrev pub monad_class : Decl
+monad_class = class_of_constructors (codes "Monad") monad_methods
+
+abbrev pub num_class : Decl
+num_class = class (codes "Num") [] num_methods
+
+abbrev pub ord_class : Decl
+ord_class = class (codes "Ord") (one_super (codes "Eq")) ord_methods
+
+abbrev pub read_class : Decl
+read_class = class (codes "Read") [] read_methods
+
+abbrev pub real_class : Decl
+real_class = class (codes "Real") (two_supers (codes "Num") (codes "Ord")) real_methods
+
+abbrev pub real_frac_class : Decl
+real_frac_class = class (codes "RealFrac") (two_supers (codes "Real") (codes "Fractional")) real_frac_methods
+
+abbrev pub show_class : Decl
+show_class = class (codes "Show") [] show_methods

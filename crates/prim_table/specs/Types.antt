@@ -13,7 +13,7 @@ use Rattle.face_model.specs.declared.decl.Decl.{Decl}
 use Rattle.face_model.specs.declared.decl.Body.{Body}
 use Rattle.face_model.specs.declared.decl.Body.TheVariants as bodies
 use Rattle.prim_table.specs.Spelled.{◌⊳◌, own, type_name, spelled, fixity}
-use Rattle.prim_table.specs.Classes.{class, class_of_constructors, bounded_methods, enum_methods, eq_methods, floating_methods, fractional_methods, functor_methods, integral_methods, monad_methods, num_methods, ord_methods, read_methods, real_methods, real_frac_methods, show_methods}
+use Rattle.prim_table.specs.Classes.{bounded_class, enum_class, eq_class, floating_class, fractional_class, functor_class, integral_class, monad_class, num_class, ord_class, read_class, real_class, real_frac_class, show_class}
 
 abbrev pub type_decl : List ℕ → Body → Decl
 type_decl occ body = record { name = type_name occ; fixity = None; body = body }
@@ -94,51 +94,94 @@ values =
     ∷ value (codes "writeFile") 0 (codes ">[C>[C@WU")
     ∷ []
 
-abbrev pub first_types : List Decl → List Decl
-first_types out =
-    out
-    ⊳ enumeration (codes "Bool") (constant (codes "False") ∷ constant (codes "True") ∷ [])
-    ⊳ class (codes "Bounded") [] bounded_methods
-    ⊳ opaque (codes "Char") 0
-    ⊳ opaque (codes "Double") 0
-    ⊳ class (codes "Enum") [] enum_methods
-    ⊳ class (codes "Eq") [] eq_methods
-    ⊳ opaque (codes "Float") 0
-    ⊳ class (codes "Floating") (type_name (codes "Fractional") ∷ []) floating_methods
-    ⊳ class (codes "Fractional") (type_name (codes "Num") ∷ []) fractional_methods
+abbrev pub booleans : Decl
+booleans = enumeration (codes "Bool") (constant (codes "False") ∷ constant (codes "True") ∷ [])
 
-abbrev pub second_types : List Decl → List Decl
-second_types out =
-    out
-    ⊳ class_of_constructors (codes "Functor") functor_methods
-    ⊳ opaque (codes "IO") 1
-    ⊳ opaque (codes "Int") 0
-    ⊳ opaque (codes "Integer") 0
-    ⊳ class (codes "Integral") (type_name (codes "Real") ∷ type_name (codes "Enum") ∷ []) integral_methods
-    ⊳ class_of_constructors (codes "Monad") monad_methods
-    ⊳ class (codes "Num") [] num_methods
-    ⊳ class (codes "Ord") (type_name (codes "Eq") ∷ []) ord_methods
-    ⊳ enumeration (codes "Ordering") (constant (codes "LT") ∷ constant (codes "EQ") ∷ constant (codes "GT") ∷ [])
-
-abbrev pub third_types : List Decl → List Decl
-third_types out =
-    out
-    ⊳ opaque (codes "Ratio") 1
-    ⊳ synonym (codes "Rational") 0 (codes "@RZ")
-    ⊳ class (codes "Read") [] read_methods
-    ⊳ synonym (codes "ReadS") 1 (codes ">[C[,0[C")
-    ⊳ class (codes "Real") (type_name (codes "Num") ∷ type_name (codes "Ord") ∷ []) real_methods
-    ⊳ class (codes "RealFrac") (type_name (codes "Real") ∷ type_name (codes "Fractional") ∷ []) real_frac_methods
-    ⊳ class (codes "Show") [] show_methods
-    ⊳ synonym (codes "ShowS") 0 (codes ">[C[C")
-    ⊳ synonym (codes "String") 0 (codes "[C")
+abbrev pub orderings : Decl
+orderings = enumeration (codes "Ordering") (constant (codes "LT") ∷ constant (codes "EQ") ∷ constant (codes "GT") ∷ [])
 
 abbrev pub units : Decl
 units = data_type (codes "()") 0 (constant (codes "()") ∷ [])
 
--- the unit type, tuples of 2 to 15 parts, functions, the types and classes that have names, and lists
+-- Each of these is put behind what stands in front of it.
+
+-- the unit type, tuples of 2 to 15 parts, and functions
+abbrev pub special_types : List Decl → List Decl
+special_types out = tuples 14 (out ⊳ units) ⊳ opaque (codes "->") 2
+
+abbrev pub first_types : List Decl → List Decl
+first_types out =
+    out
+    ⊳ booleans
+    ⊳ bounded_class
+    ⊳ opaque (codes "Char") 0
+    ⊳ opaque (codes "Double") 0
+    ⊳ enum_class
+
+abbrev pub second_types : List Decl → List Decl
+second_types out =
+    out
+    ⊳ eq_class
+    ⊳ opaque (codes "Float") 0
+    ⊳ floating_class
+    ⊳ fractional_class
+
+abbrev pub third_types : List Decl → List Decl
+third_types out =
+    out
+    ⊳ functor_class
+    ⊳ opaque (codes "IO") 1
+    ⊳ opaque (codes "Int") 0
+    ⊳ opaque (codes "Integer") 0
+    ⊳ integral_class
+
+abbrev pub fourth_types : List Decl → List Decl
+fourth_types out =
+    out
+    ⊳ monad_class
+    ⊳ num_class
+    ⊳ ord_class
+    ⊳ orderings
+
+abbrev pub fifth_types : List Decl → List Decl
+fifth_types out =
+    out
+    ⊳ opaque (codes "Ratio") 1
+    ⊳ synonym (codes "Rational") 0 (codes "@RZ")
+    ⊳ read_class
+    ⊳ synonym (codes "ReadS") 1 (codes ">[C[,0[C")
+    ⊳ real_class
+
+abbrev pub sixth_types : List Decl → List Decl
+sixth_types out =
+    out
+    ⊳ real_frac_class
+    ⊳ show_class
+    ⊳ synonym (codes "ShowS") 0 (codes ">[C[C")
+    ⊳ synonym (codes "String") 0 (codes "[C")
+
+-- up to `Fractional`
+abbrev pub lower_types : List Decl → List Decl
+lower_types out = second_types (first_types out)
+
+-- from `Functor` to `Ordering`
+abbrev pub middle_types : List Decl → List Decl
+middle_types out = fourth_types (third_types out)
+
+-- from `Ratio` on
+abbrev pub upper_types : List Decl → List Decl
+upper_types out = sixth_types (fifth_types out)
+
+abbrev pub up_to_orderings : List Decl → List Decl
+up_to_orderings out = middle_types (lower_types out)
+
+-- the types and classes that have names
+abbrev pub named_types : List Decl → List Decl
+named_types out = upper_types (up_to_orderings out)
+
+-- those of special syntax, those that have names, and lists
 abbrev pub all_types : List Decl → List Decl
-all_types out = third_types (second_types (first_types (tuples 14 (out ⊳ units) ⊳ opaque (codes "->") 2))) ⊳ lists
+all_types out = named_types (special_types out) ⊳ lists
 
 abbrev pub decls : List Decl
 decls = all_types values

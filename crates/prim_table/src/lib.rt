@@ -1,8 +1,12 @@
-//! The face of the module `Prim`, which every tree has: so far its classes' methods, its types and values, and its instances.
+//! The face of the module `Prim`, which every tree has: its types, classes, instances and values.
 #![tactic(auto)]
 
-pub mod insts;
-pub mod methods;
+mod class_decls;
+mod decls;
+mod exports;
+mod insts;
+mod methods;
 mod put;
 mod spelled;
-pub mod types;
+pub mod table;
+mod types;
