@@ -2,6 +2,7 @@
 #![tactic(auto)]
 
 pub mod choice;
+pub mod defaults;
 pub mod names;
 pub mod outcome;
 pub mod reduce;
