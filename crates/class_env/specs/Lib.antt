@@ -7,3 +7,5 @@ pub mod Answers
 pub mod Supers
 pub mod Defaults
 pub mod DefaultLaws
+pub mod Entails
+pub mod EntailLaws

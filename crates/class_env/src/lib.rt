@@ -3,6 +3,9 @@
 
 pub mod choice;
 pub mod defaults;
+pub mod entail;
+pub mod entail_laws;
+pub mod given;
 pub mod names;
 pub mod outcome;
 pub mod reduce;
