@@ -16,13 +16,13 @@ module _ (s : Name → List Name) where
 
 -- two views of superclasses that agree at all classes that a class gives
 module _ (s u : Name → List Name) where
-  reach_over : {a b : Name} → Reaches s a b → ((c : Name) → Gives s a c → s c ≡ u c) → Reaches u a b
-  reach_over {a} {b} (step h) agree = step (subst (λ (l : List Name). Contains l b) (agree a (inl refl)) h)
+  reach_over : {a c : Name} → Reaches s a c → ((x : Name) → Gives s a x → s x ≡ u x) → Reaches u a c
+  reach_over {a} {c} (step h) agree = step (subst (λ (l : List Name). Contains l c) (agree a (inl refl)) h)
   reach_over {a} {c} (onward {b = b} h r) agree =
       onward (subst (λ (l : List Name). Contains l b) (agree a (inl refl)) h) (reach_over r (λ d g. agree d (gives_trans s a b d (inr (step h)) g)))
 
-  reach_back : {a b : Name} → Reaches u a b → ((c : Name) → Gives s a c → s c ≡ u c) → Reaches s a b
-  reach_back {a} {b} (step h) agree = step (subst (λ (l : List Name). Contains l b) (sym (agree a (inl refl))) h)
+  reach_back : {a c : Name} → Reaches u a c → ((x : Name) → Gives s a x → s x ≡ u x) → Reaches s a c
+  reach_back {a} {c} (step h) agree = step (subst (λ (l : List Name). Contains l c) (sym (agree a (inl refl))) h)
   reach_back {a} {c} (onward {b = b} h r) agree =
       let first : Contains (s a) b = subst (λ (l : List Name). Contains l b) (sym (agree a (inl refl))) h in
       onward first (reach_back r (λ d g. agree d (gives_trans s a b d (inr (step first)) g)))

@@ -1,6 +1,6 @@
 -- Defaults of variables: one answer, and what is read.
 use Rattle.std.proofs.Common.{◌≡◌, ◌⊎◌, ◌↔◌, inl, inr, ℕ, Bool, true, false, List, [], ◌∷◌, ◌++◌, take, Option, Some, None, sym, ◌∙◌, ap, subst, refl}
-use Rattle.std.specs.Prelude.{IsTrue, codes}
+use Rattle.std.specs.Prelude.{IsTrue, IfOk, Result, Ok, Err, codes}
 use Rattle.std.specs.List.{Contains}
 use Rattle.std.proofs.lemmas.List.Elements.{Contains-append_cases}
 use Rattle.mk_base.specs.declared.name.Name.{Name}
@@ -34,9 +34,9 @@ module _ (supers : Name → List Name) (members : Name → Name → List Inst) (
   two_firsts a b (inr p) (inr q) = p.0 ∙ sym q.0
 
   not_both : (a : Ty) → IsDefaultable supers v ws → First a → ((IsDefaultable supers v ws → ⊥) ⊎ ((Fits members v ws integer → ⊥) × (Fits members v ws double → ⊥))) → ⊥
-  not_both a d f (inl no) = no d
-  not_both a d (inl p) (inr no) = no.0 p.1
-  not_both a d (inr p) (inr no) = no.1 p.2
+  not_both a d f (inl none) = none d
+  not_both a d (inl p) (inr none) = none.0 p.1
+  not_both a d (inr p) (inr none) = none.1 p.2
 
   pub one_default : (a b : Option Ty) → IsDefault supers members v ws a → IsDefault supers members v ws b → a ≡ b
   one_default None None p q = refl
@@ -83,13 +83,13 @@ module _ (fs gs : Faces) (v : ℕ) (ws : List Constraint) (above : SameAboveOn f
     first_alike = fits_alike (prim_type (codes "Integer")) first
 
     none_over : (FirstFits fs → ⊥) → FirstFits gs → ⊥
-    none_over no f = no (first_alike.1 f)
+    none_over none f = none (first_alike.1 f)
 
     none_back : (FirstFits gs → ⊥) → FirstFits fs → ⊥
-    none_back no f = no (first_alike.0 f)
+    none_back none f = none (first_alike.0 f)
 
     second_alike : (FirstFits fs → ⊥) → SecondFits fs ↔ SecondFits gs
-    second_alike no = fits_alike (prim_type (codes "Double")) (second no)
+    second_alike none = fits_alike (prim_type (codes "Double")) (second none)
 
     pub default_alike : (o : Option Ty) → IsDefault (supers_of fs) (insts_of fs) v ws o ↔ IsDefault (supers_of gs) (insts_of gs) v ws o
     default_alike (Some t) = (
@@ -112,6 +112,22 @@ module _ (fs gs : Faces) (v : ℕ) (ws : List Constraint) (above : SameAboveOn f
         | inr p ↦ inr (none_back p.0, (λ f. p.1 ((second_alike (none_back p.0)).0 f)))
       ]),
     )
+
+-- ---- the answers
+
+module _ (supers : Name → List Name) (members : Name → Name → List Inst) (v : ℕ) (ws : List Constraint) where
+  pub first_fits : (a : Ty) → IsDefaultable supers v ws → a ≡ integer → Fits members v ws a → IsDefault supers members v ws (Some a)
+  first_fits a d e f = (d, inl (e, subst (Fits members v ws) e f))
+
+  pub second_fits : (a b : Ty) → IsDefaultable supers v ws → a ≡ integer → (Fits members v ws a → ⊥) → b ≡ double → Fits members v ws b → IsDefault supers members v ws (Some b)
+  second_fits a b d e none q f = (d, inr (q, (λ x. none (subst (Fits members v ws) (sym e) x)), subst (Fits members v ws) q f))
+
+  pub none_fits : (a b : Ty) → a ≡ integer → (Fits members v ws a → ⊥) → b ≡ double → (Fits members v ws b → ⊥) → IsDefault supers members v ws None
+  none_fits a b e none q neither = inr ((λ x. none (subst (Fits members v ws) (sym e) x)), (λ x. neither (subst (Fits members v ws) (sym q) x)))
+
+pub ok_both : {E : Type 0} (r : Result Bool E) (P Q : Type 0) → P → IfOk r (λ b. IsTrue b ↔ Q) → IfOk r (λ b. IsTrue b ↔ (P × Q))
+ok_both (Ok b) P Q p e = ((λ h. (p, e.0 h)), (λ q. e.1 q.1))
+ok_both (Err x) P Q p e = e
 
 -- ---- steps of loops
 

@@ -1,5 +1,5 @@
 -- What follows, step by step.
-use Rattle.std.proofs.Common.{◌≡◌, ◌⊎◌, ◌↔◌, inl, inr, ℕ, ◌<◌, ◌≤◌, Bool, true, false, List, [], ◌∷◌, ◌++◌, length, get_or, Option, Some, None, sym, ◌∙◌, ap, subst, refl, arith}
+use Rattle.std.proofs.Common.{◌≡◌, ◌⊎◌, ◌↔◌, inl, inr, ℕ, ◌<◌, ◌≤◌, Bool, true, false, List, [], ◌∷◌, ◌++◌, length, get_or, take, ◌+◌, Option, Some, None, sym, ◌∙◌, ap, subst, refl, arith}
 use Rattle.std.specs.Prelude.{IsTrue}
 use Rattle.std.specs.List.{Contains}
 use Rattle.std.proofs.lemmas.List.Elements.{Contains-append_left, Contains-append_right, Contains-append_cases}
@@ -14,6 +14,7 @@ use Rattle.class_env.specs.Instances.{Only, No, One, Several, only_of}
 use Rattle.class_env.specs.Supers.{Gives}
 use Rattle.class_env.specs.Entails.{Known, KnownIn, HeldAt, Entails, by_given, by_instance, HoldsAt, Holds, ByOnly}
 use Rattle.class_env.proofs.Order.{only_one, here}
+use Rattle.class_env.proofs.Sweeping.{take_next}
 
 pub not_true : {A : Type 0} → false ≡ true → A
 not_true e = absurd (let h : ⊥ = cc in h)
@@ -95,3 +96,13 @@ known_next supers hs h ws w e give all c t = (
         (h, Contains-append_right hs (h ∷ []) h (here h []), ((give c).1 (subst (λ (x : Constraint). Gives supers x.class c) (sym same) k.2), ap term_of e ∙ ap (λ (x : Constraint). term_of x.ty) same ∙ k.3))
   ])
 )
+
+pub known_pushed : (supers : Name → List Name) (hs new : List Held) (h : Held) (given : List Constraint) (i : ℕ) (w : Constraint) → new ≡ hs ++ h ∷ [] → i < length given → get_or given i w ≡ w → h.ty.now ≡ w.ty
+    → ((c : Name) → Contains h.above.keys c ↔ Gives supers w.class c) → ((c : Name) (t : Term) → KnownIn hs c t ↔ Known supers (take i given) c t) → (c : Name) (t : Term) → KnownIn new c t ↔ Known supers (take (i + 1) given) c t
+known_pushed supers hs new h given i w pushed lt item e give all c t =
+    subst (λ (l : List Held). KnownIn l c t ↔ Known supers (take (i + 1) given) c t) (sym pushed)
+    (subst (λ (l : List Constraint). KnownIn (hs ++ h ∷ []) c t ↔ Known supers l c t) (sym (take_next given i w w lt item)) (known_next supers hs h (take i given) w e give all c t))
+
+pub follows_alike : (k l : Name → Term → Type 0) (members : Name → Name → List Inst) (b : Bool) (d : Name) (u : Term) → ((c : Name) (t : Term) → k c t ↔ l c t) → IsTrue b ↔ Entails k members d u → IsTrue b ↔ Entails l members d u
+follows_alike k l members b d u alike e =
+    ((λ h. entails_more k l members (λ c t. (alike c t).0) (e.0 h)), (λ q. e.1 (entails_more l k members (λ c t. (alike c t).1) q)))

@@ -207,6 +207,30 @@ fn is_defaultable<E: Env>(
     has_numeric(alloc, var, wanted, env)
 }
 
+/// The default type of a variable among constraints.
+fn default_in<E: Env>(
+    alloc: Global,
+    var: u64,
+    wanted: &[Constraint],
+    env: &mut E,
+) -> Result<Option<Ty>, NoMemory>
+    ensures same { E.faces env.new ≡ E.faces env.old }
+    ensures exact { IfOk result (spec.IsDefault (supers_of (E.faces env.old)) (insts_of (E.faces env.old)) var wanted.now) }
+{
+    if !is_defaultable(alloc, var, wanted, env)? {
+        return Ok(None);
+    }
+    let first = integer(alloc)?;
+    if fits(alloc, var, wanted, &first, env)? {
+        return Ok(Some(first));
+    }
+    let second = double(alloc)?;
+    if fits(alloc, var, wanted, &second, env)? {
+        return Ok(Some(second));
+    }
+    Ok(None)
+}
+
 /// The default type of a variable, `Integer` or else `Double`: the first at which all classes of the variable have an
 /// instance. None exactly where neither has, or the variable isn't defaultable: it stands in a constraint that isn't on
 /// the variable itself, or one of its classes isn't of `Prim`, or none is `Num` or has it among its superclasses. No
@@ -220,19 +244,7 @@ pub fn default_of<E: Env>(
     ensures same { E.faces env.new ≡ E.faces env.old }
     ensures exact { IfOk result (spec.IsDefault (supers_of (E.faces env.old)) (insts_of (E.faces env.old)) var wanted.now) }
 {
-    let wanted = wanted.as_slice();
-    if !is_defaultable(alloc, var, wanted, env)? {
-        return Ok(None);
-    }
-    let first = integer(alloc)?;
-    if fits(alloc, var, wanted, &first, env)? {
-        return Ok(Some(first));
-    }
-    let second = double(alloc)?;
-    if fits(alloc, var, wanted, &second, env)? {
-        return Ok(Some(second));
-    }
-    Ok(None)
+    default_in(alloc, var, wanted.as_slice(), env)
 }
 
 /// A variable has one default, or none.
