@@ -76,5 +76,5 @@ known_back fs gs given same c t k = (k.0, k.1, gives_back (supers_of fs) (supers
 pub reads_no_more : (fs gs : Faces) (given : List Constraint) (w : Constraint) → SameAbove fs gs given → SameNeeded fs gs w → Follows fs given w ↔ Follows gs given w
 reads_no_more fs gs given w same needed = (
   (λ d. over (insts_of fs) (insts_of gs) (Known (supers_of fs) given) (Known (supers_of gs) given) (known_over fs gs given same) d needed),
-  (λ d. back (insts_of fs) (insts_of gs) (Known (supers_of fs) given) (Known (supers_of gs) given) (known_back fs gs given same) d needed)
+  (λ d. back (insts_of fs) (insts_of gs) (Known (supers_of fs) given) (Known (supers_of gs) given) (known_back fs gs given same) d needed),
 )

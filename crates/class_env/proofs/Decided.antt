@@ -63,16 +63,18 @@ module _ (s : Name → List Name) (m : Name → Name → List Inst) (ws : List C
 
   good_then : (a b : Outcome) → Good a → Good b → Good (then a b)
   good_then a b p q =
-      let e : then a b ≡ outcome (a.rest ++ b.rest) (a.met ++ b.met) b.fault = then_plain a b p.0 in
-      (ap (λ (o : Outcome). o.fault) e ∙ q.0,
-       (λ k h. elim (Contains-append_cases a.rest b.rest k (subst (λ (l : List Constraint). Contains l k) (ap (λ (o : Outcome). o.rest) e) h)) [ inl x ↦ p.1 k x | inr y ↦ q.1 k y ]))
+      let e : then a b ≡ outcome (a.rest ++ b.rest) (a.met ++ b.met) b.fault = then_plain a b p.0 in (
+        ap (λ (o : Outcome). o.fault) e ∙ q.0,
+        (λ k h. elim (Contains-append_cases a.rest b.rest k (subst (λ (l : List Constraint). Contains l k) (ap (λ (o : Outcome). o.rest) e) h)) [ inl x ↦ p.1 k x | inr y ↦ q.1 k y ]),
+      )
 
   then_good : (a b : Outcome) → Good (then a b) → Good a × Good b
   then_good a b p =
       let two = both_none a b p.0 in
-      let e : then a b ≡ outcome (a.rest ++ b.rest) (a.met ++ b.met) b.fault = then_plain a b two.0 in
-      ((two.0, (λ k h. p.1 k (subst (λ (l : List Constraint). Contains l k) (sym (ap (λ (o : Outcome). o.rest) e)) (Contains-append_left a.rest b.rest k h)))),
-       (two.1, (λ k h. p.1 k (subst (λ (l : List Constraint). Contains l k) (sym (ap (λ (o : Outcome). o.rest) e)) (Contains-append_right a.rest b.rest k h)))))
+      let e : then a b ≡ outcome (a.rest ++ b.rest) (a.met ++ b.met) b.fault = then_plain a b two.0 in (
+        (two.0, (λ k h. p.1 k (subst (λ (l : List Constraint). Contains l k) (sym (ap (λ (o : Outcome). o.rest) e)) (Contains-append_left a.rest b.rest k h)))),
+        (two.1, (λ k h. p.1 k (subst (λ (l : List Constraint). Contains l k) (sym (ap (λ (o : Outcome). o.rest) e)) (Contains-append_right a.rest b.rest k h)))),
+      )
 
   good_place : (k : Constraint) (t : Term) → ((n : ℕ) → place (term_of k.ty) ≡ Some n → n < length (arguments t) → Good (reduce_at m (get_or (arguments t) n (Var 0)) [] k.class)) → Good (at_place (place (term_of k.ty)) k.class (given m t))
   good_place k t h = at (place (term_of k.ty)) refl where

@@ -93,14 +93,20 @@ module _ (fs gs : Faces) (v : ℕ) (ws : List Constraint) (above : SameAboveOn f
 
     pub default_alike : (o : Option Ty) → IsDefault (supers_of fs) (insts_of fs) v ws o ↔ IsDefault (supers_of gs) (insts_of gs) v ws o
     default_alike (Some t) = (
-      (λ d. (defaultable_alike.0 d.0, elim d.1 [
-        | inl p ↦ inl (p.0, first_alike.0 p.1)
-        | inr p ↦ inr (p.0, none_over p.1, (second_alike p.1).0 p.2)
-      ])),
-      (λ d. (defaultable_alike.1 d.0, elim d.1 [
-        | inl p ↦ inl (p.0, first_alike.1 p.1)
-        | inr p ↦ inr (p.0, none_back p.1, (second_alike (none_back p.1)).1 p.2)
-      ])),
+      (λ d. (
+        defaultable_alike.0 d.0,
+        elim d.1 [
+          | inl p ↦ inl (p.0, first_alike.0 p.1)
+          | inr p ↦ inr (p.0, none_over p.1, (second_alike p.1).0 p.2)
+        ],
+      )),
+      (λ d. (
+        defaultable_alike.1 d.0,
+        elim d.1 [
+          | inl p ↦ inl (p.0, first_alike.1 p.1)
+          | inr p ↦ inr (p.0, none_back p.1, (second_alike (none_back p.1)).1 p.2)
+        ],
+      )),
     )
     default_alike None = (
       (λ d. elim d [

@@ -50,12 +50,13 @@ module _ (known : Name → Term → Type 0) (members : Name → Name → List In
   pub exact_constructor : (c h : Name) (t : Term) (is : List Inst) (b : Bool) → (known c t → ⊥) → Constructor h ≡ head t → is ≡ members c h
       → (IsTrue b ↔ ByOnly known members (only_of is (length (arguments t))) t) → IsTrue b ↔ Entails known members c t
   exact_constructor c h t is b none e f q =
-      let by : IsTrue b ↔ ByOnly known members (only_of (members c h) (length (arguments t))) t = subst (λ (l : List Inst). IsTrue b ↔ ByOnly known members (only_of l (length (arguments t))) t) f q in
-      ((λ h1. from_only c h t (only_of (members c h) (length (arguments t))) (sym e) refl (by.0 h1)),
-       (λ d. elim (invert d) [
-         | inl k ↦ absurd (none k)
-         | inr p ↦ by.1 (subst (λ (g : Name). ByOnly known members (only_of (members c g) (length (arguments t))) t) (constructor_is p.0 h (sym p.1 ∙ sym e)) p.2)
-       ]))
+      let by : IsTrue b ↔ ByOnly known members (only_of (members c h) (length (arguments t))) t = subst (λ (l : List Inst). IsTrue b ↔ ByOnly known members (only_of l (length (arguments t))) t) f q in (
+        (λ h1. from_only c h t (only_of (members c h) (length (arguments t))) (sym e) refl (by.0 h1)),
+        (λ d. elim (invert d) [
+          | inl k ↦ absurd (none k)
+          | inr p ↦ by.1 (subst (λ (g : Name). ByOnly known members (only_of (members c g) (length (arguments t))) t) (constructor_is p.0 h (sym p.1 ∙ sym e)) p.2)
+        ]),
+      )
 
   pub holds_next : (ks : List Constraint) (k : Constraint) (t : Term) → Holds known members ks t → HoldsAt known members k t → Holds known members (ks ++ k ∷ []) t
   holds_next ks k t h q j m = elim (Contains-append_cases ks (k ∷ []) j m) [ inl p ↦ h j p | inr p ↦ subst (λ (x : Constraint). HoldsAt known members x t) (only_one k j p) q ]
@@ -67,9 +68,10 @@ module _ (known : Name → Term → Type 0) (members : Name → Name → List In
   past_holds k t m e le n p lt = let same : m ≡ n = place_is m n (e ∙ p) in absurd (omega arith)
 
   pub argument_holds : (k : Constraint) (t a : Term) (m : ℕ) (b : Bool) → Some m ≡ place (term_of k.ty) → m < length (arguments t) → get_or (arguments t) m (Var 0) ≡ a → (IsTrue b ↔ Entails known members k.class a) → IsTrue b ↔ HoldsAt known members k t
-  argument_holds k t a m b e lt g q =
-      ((λ h n p l. subst (λ (j : ℕ). Entails known members k.class (get_or (arguments t) j (Var 0))) (place_is m n (e ∙ p)) (subst (Entails known members k.class) (sym g) (q.0 h))),
-       (λ h. q.1 (subst (Entails known members k.class) g (h m (sym e) lt))))
+  argument_holds k t a m b e lt g q = (
+    (λ h n p l. subst (λ (j : ℕ). Entails known members k.class (get_or (arguments t) j (Var 0))) (place_is m n (e ∙ p)) (subst (Entails known members k.class) (sym g) (q.0 h))),
+    (λ h. q.1 (subst (Entails known members k.class) g (h m (sym e) lt))),
+  )
 
 pub entails_more : (k l : Name → Term → Type 0) (members : Name → Name → List Inst) → ((c : Name) (t : Term) → k c t → l c t) → {c : Name} {t : Term} → Entails k members c t → Entails l members c t
 entails_more k l members more {c} {t} (by_given h) = by_given (more c t h)
@@ -94,7 +96,7 @@ known_next supers hs h ws w e give all c t = (
     | inr p ↦
         let same : w ≡ k.0 = only_one w k.0 p in
         (h, Contains-append_right hs (h ∷ []) h (here h []), ((give c).1 (subst (λ (x : Constraint). Gives supers x.class c) (sym same) k.2), ap term_of e ∙ ap (λ (x : Constraint). term_of x.ty) same ∙ k.3))
-  ])
+  ]),
 )
 
 pub known_pushed : (supers : Name → List Name) (hs new : List Held) (h : Held) (given : List Constraint) (i : ℕ) (w : Constraint) → new ≡ hs ++ h ∷ [] → i < length given → get_or given i w ≡ w → h.ty.now ≡ w.ty

@@ -138,12 +138,7 @@ fn has_numeric<E: Env>(
 }
 
 /// Whether a class at a type has a result.
-fn has_result<E: Env>(
-    alloc: Global,
-    class: &Name,
-    t: &Ty,
-    env: &mut E,
-) -> Result<bool, NoMemory>
+fn has_result<E: Env>(alloc: Global, class: &Name, t: &Ty, env: &mut E) -> Result<bool, NoMemory>
     ensures same { E.faces env.new ≡ E.faces env.old }
     ensures exact { IfOk result (λ b. IsTrue b ↔ ((reduced (insts_of (E.faces env.old)) (spec.at_type class.now t.now)).fault ≡ None)) }
 {

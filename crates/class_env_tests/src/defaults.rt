@@ -10,7 +10,8 @@ use std::process::Abort;
 use std::test::Fail;
 
 // The numeric classes of `Prim` with their instances at `Integer` and `Double`, and a class C of another module.
-const CLASSES: &str = "E> O>E S> N>ES R>NO I>R F>N C>N EI0 OI0 SI0 NI0 RI0 II0 CI0 CD0 ED0 OD0 SD0 ND0 RD0 FD0 EL1E0";
+const CLASSES: &str =
+    "E> O>E S> N>ES R>NO I>R F>N C>N EI0 OI0 SI0 NI0 RI0 II0 CI0 CD0 ED0 OD0 SD0 ND0 RD0 FD0 EL1E0";
 
 // A line is constraints, and the default of the variable 0: `I` for `Integer`, `D` for `Double`.
 const ROWS: &str = "
@@ -61,7 +62,12 @@ N0 F0|-
 ";
 
 /// Checks a line of a table.
-fn check_row(rt: &impl Abort, alloc: Global, env: &mut OneFace, line: &[u8]) -> Result<(), NoMemory> {
+fn check_row(
+    rt: &impl Abort,
+    alloc: Global,
+    env: &mut OneFace,
+    line: &[u8],
+) -> Result<(), NoMemory> {
     let (text, expected) = cut_at(line, b'|');
     let wanted = constraints(alloc, text)?;
     let found = default_of(alloc, 0, &wanted, env)?;

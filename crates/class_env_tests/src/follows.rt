@@ -9,7 +9,8 @@ use std::test::Fail;
 
 // The classes C, D and G have each other as superclasses in a circle, and H itself. K has the superclass E, and an
 // instance at T where E has none.
-const CLASSES: &str = "E> O>E S> N>ES R>NO I>R C>D D>G G>C H>H K>E EI0 EL1E0 OL1O0 EP2E0E1 EX1 KT0 KL1K0 SM1S0 SM1 SQ2S0";
+const CLASSES: &str =
+    "E> O>E S> N>ES R>NO I>R C>D D>G G>C H>H K>E EI0 EL1E0 OL1O0 EP2E0E1 EX1 KT0 KL1K0 SM1S0 SM1 SQ2S0";
 
 // A line is given constraints, a wanted one, and whether it follows.
 const ROWS: &str = "
@@ -83,7 +84,12 @@ S1|S@@Q01|0
 ";
 
 /// Checks a line of the table.
-fn check_row(rt: &impl Abort, alloc: Global, env: &mut OneFace, line: &[u8]) -> Result<(), NoMemory> {
+fn check_row(
+    rt: &impl Abort,
+    alloc: Global,
+    env: &mut OneFace,
+    line: &[u8],
+) -> Result<(), NoMemory> {
     let (text, rest) = cut_at(line, b'|');
     let (word, expected) = cut_at(rest, b'|');
     let given = constraints(alloc, text)?;

@@ -10,7 +10,8 @@ use std::process::Abort;
 use std::test::Fail;
 
 // Classes, each with `>` and its superclasses, and instances: class, type, number of variables, context.
-const PLAIN: &str = "E> O>E S> C> EI0 OI0 SI0 EL1E0 OL1O0 SL1S0 EP2E0E1 OP2O0O1 SP2S0S1 EX1 CL1E0S0 CP2C0E1 CI0";
+const PLAIN: &str =
+    "E> O>E S> C> EI0 OI0 SI0 EL1E0 OL1O0 SL1S0 EP2E0E1 OP2O0O1 SP2S0S1 EX1 CL1E0S0 CP2C0E1 CI0";
 
 // A line is constraints, each a class and a type in prefix form, and behind the bar the constraints that are left and,
 // behind a semicolon, the pairs met; or the place of the first constraint without a result, with its pair.
@@ -93,7 +94,12 @@ O@@P0T| none 0 OT
 ";
 
 /// Checks a line of a table.
-fn check_row(rt: &impl Abort, alloc: Global, env: &mut OneFace, line: &[u8]) -> Result<(), NoMemory> {
+fn check_row(
+    rt: &impl Abort,
+    alloc: Global,
+    env: &mut OneFace,
+    line: &[u8],
+) -> Result<(), NoMemory> {
     let (text, expected) = cut_at(line, b'|');
     let wanted = constraints(alloc, text)?;
     let found = reduce(alloc, &wanted, env)?;

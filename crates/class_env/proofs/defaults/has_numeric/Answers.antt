@@ -5,7 +5,7 @@ use Rattle.mk_base.specs.declared.name.Name.{Name}
 use Rattle.face_model.specs.declared.scheme.Constraint.{Constraint}
 use Rattle.face_model.specs.Environments.{Faces}
 use Rattle.class_env.specs.Supers.{supers_of, Gives}
-use Rattle.class_env.specs.Defaults.{IsOn}
+use Rattle.class_env.specs.Defaults.{IsOn, numeric}
 use Rattle.class_env.proofs.Sweeping.{take_next}
 use Rattle.class_env.proofs.Entailed.{not_true}
 use Rattle.class_env.proofs.Defaulting.{all_next}
@@ -15,8 +15,12 @@ pub returns-then-branch-clause-exact : goal.returns-then-branch-clause-exact
 returns-then-branch-clause-exact g c =
     let two = c.in_ok-is_numeric.ensures.exact.0 c.if-branch.true in
     let item = c.w-item.result in (
-      (λ h. (item, (c.loop-w.w-index, c.loop-w-test.true, sym c.w-item.is), two.0,
-        subst (λ (fs : Faces). Gives (supers_of fs) item.class _) c.loop-w.invariant.same (subst (λ (n : Name). Gives (supers_of (g.E.Env.faces c.loop-w.env)) item.class n) c.in_ok-number.ensures two.1))),
+      (λ h. (
+        item,
+        (c.loop-w.w-index, c.loop-w-test.true, sym c.w-item.is),
+        two.0,
+        subst (λ (fs : Faces). Gives (supers_of fs) item.class numeric) c.loop-w.invariant.same (subst (λ (n : Name). Gives (supers_of (g.E.Env.faces c.loop-w.env)) item.class n) c.in_ok-number.ensures two.1),
+      )),
       (λ h. refl),
     )
 
@@ -37,5 +41,5 @@ returns-clause-exact g c =
     let supers = supers_of (g.E.Env.faces c.args.env.now) in (
       (λ h. not_true h),
       (λ k. absurd (c.loop-w.invariant.none k.0 (subst (λ (l : List Constraint). Contains l k.0) (sym (take_all c.loop-w.w-index c.args.wanted.now c.loop-w-test.false)) k.1)
-        (k.2, subst (λ (n : Name). Gives supers k.0.class n) (sym c.in_ok-number.ensures) k.3))),
+          (k.2, subst (λ (n : Name). Gives supers k.0.class n) (sym c.in_ok-number.ensures) k.3))),
     )
