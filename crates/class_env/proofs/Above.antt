@@ -1,5 +1,5 @@
 -- What a class gives over superclasses, and what is read for it.
-use Rattle.std.proofs.Common.{◌≡◌, ◌↔◌, inl, inr, List, sym, ◌∙◌, subst, refl}
+use Rattle.std.proofs.Common.{◌≡◌, inl, inr, List, sym, subst, refl}
 use Rattle.std.specs.List.{Contains}
 use Rattle.mk_base.specs.declared.name.Name.{Name}
 use Rattle.class_env.specs.Supers.{Reaches, step, onward, Gives}

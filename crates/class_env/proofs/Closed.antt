@@ -1,13 +1,12 @@
 -- What entailment is closed under, and what it reads.
-use Rattle.std.proofs.Common.{◌≡◌, ◌↔◌, inl, inr, ℕ, ◌<◌, List, length, sym, ◌∙◌, subst, refl}
-use Rattle.std.specs.List.{Contains}
+use Rattle.std.proofs.Common.{◌≡◌, ◌↔◌, inl, inr, List, length, sym, ◌∙◌, subst, refl}
 use Rattle.mk_base.specs.declared.name.Name.{Name}
 use Rattle.face_model.specs.Environments.{Faces, insts_of}
 use Rattle.face_model.specs.declared.inst.Inst.{Inst}
 use Rattle.face_model.specs.declared.scheme.Constraint.{Constraint}
 use Rattle.class_env.specs.declared.outcome.Pair.{Pair}
 use Rattle.class_env.specs.Terms.{Term, term_of}
-use Rattle.class_env.specs.Spine.{Variable, Constructor, head, arguments}
+use Rattle.class_env.specs.Spine.{Constructor, head, arguments}
 use Rattle.class_env.specs.Instances.{One, only_of}
 use Rattle.class_env.specs.Supers.{supers_of, Gives}
 use Rattle.class_env.specs.Reduce.{pair}

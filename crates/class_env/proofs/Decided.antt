@@ -8,12 +8,11 @@ use Rattle.mk_base.specs.declared.ty.Ty.TheVariants as types
 use Rattle.face_model.specs.declared.inst.Inst.{Inst}
 use Rattle.face_model.specs.declared.scheme.Constraint.{Constraint}
 use Rattle.face_model.specs.Environments.{Faces, insts_of}
-use Rattle.class_env.specs.declared.outcome.Fault.{Fault}
 use Rattle.class_env.specs.declared.outcome.Pair.{Pair}
 use Rattle.class_env.specs.Terms.{Term, Var, Con, App, term_of}
 use Rattle.class_env.specs.Spine.{Head, Variable, Constructor, head, arguments, place}
 use Rattle.class_env.specs.Instances.{Outcome, outcome, nothing, then, Only, No, One, Several, only_of}
-use Rattle.class_env.specs.Supers.{supers_of, Gives}
+use Rattle.class_env.specs.Supers.{supers_of}
 use Rattle.class_env.specs.Reduce.{reduce_at, reduced, given, on_variable, at_place, at_arguments, by_instance, pair, constraint}
 use Rattle.class_env.specs.Laws.{AgreesAt}
 use Rattle.class_env.specs.Entails.{Known, Entails, by_given, by_instance as by_one, Follows}

@@ -1,5 +1,5 @@
 -- Defaults of variables: one answer, and what is read.
-use Rattle.std.proofs.Common.{◌≡◌, ◌⊎◌, ◌↔◌, inl, inr, ℕ, Bool, true, false, List, [], ◌∷◌, ◌++◌, take, Option, Some, None, sym, ◌∙◌, ap, subst, refl}
+use Rattle.std.proofs.Common.{◌≡◌, ◌⊎◌, ◌↔◌, inl, inr, ℕ, Bool, List, [], ◌∷◌, ◌++◌, Option, Some, None, sym, ◌∙◌, ap, subst, refl}
 use Rattle.std.specs.Prelude.{IsTrue, IfOk, Result, Ok, Err, codes}
 use Rattle.std.specs.List.{Contains}
 use Rattle.std.proofs.lemmas.List.Elements.{Contains-append_cases}
@@ -9,12 +9,12 @@ use Rattle.mk_base.specs.declared.ty.Ty.TheVariants as types
 use Rattle.face_model.specs.declared.inst.Inst.{Inst}
 use Rattle.face_model.specs.declared.scheme.Constraint.{Constraint}
 use Rattle.face_model.specs.Environments.{Faces, insts_of}
-use Rattle.class_env.specs.Terms.{Term, term_of}
+use Rattle.class_env.specs.Terms.{Term}
 use Rattle.class_env.specs.Instances.{Outcome, only_of}
-use Rattle.class_env.specs.Supers.{supers_of, Gives}
+use Rattle.class_env.specs.Supers.{supers_of}
 use Rattle.class_env.specs.Laws.{AgreesAt}
 use Rattle.class_env.specs.Reduce.{reduce_at, reduced, by_instance, pair}
-use Rattle.class_env.specs.Defaults.{prim_type, IsPrim, numeric, integer, double, occurs, IsOn, Permits, HasNumeric, IsDefaultable, at_type, FitsAt, Fits, IsDefault}
+use Rattle.class_env.specs.Defaults.{prim_type, numeric, integer, double, HasNumeric, IsDefaultable, at_type, Fits, IsDefault}
 use Rattle.class_env.specs.DefaultLaws.{SameAboveOn, SameMetAt}
 use Rattle.class_env.proofs.Order.{only_one}
 use Rattle.class_env.proofs.Types.{term_con}

@@ -1,15 +1,14 @@
 -- What follows, step by step.
-use Rattle.std.proofs.Common.{◌≡◌, ◌⊎◌, ◌↔◌, inl, inr, ℕ, ◌<◌, ◌≤◌, Bool, true, false, List, [], ◌∷◌, ◌++◌, length, get_or, take, ◌+◌, Option, Some, None, sym, ◌∙◌, ap, subst, refl, arith}
+use Rattle.std.proofs.Common.{◌≡◌, ◌⊎◌, ◌↔◌, inl, inr, ℕ, ◌<◌, ◌≤◌, Bool, true, false, List, [], ◌∷◌, ◌++◌, length, get_or, take, ◌+◌, Some, None, sym, ◌∙◌, ap, subst, refl, arith}
 use Rattle.std.specs.Prelude.{IsTrue}
 use Rattle.std.specs.List.{Contains}
 use Rattle.std.proofs.lemmas.List.Elements.{Contains-append_left, Contains-append_right, Contains-append_cases}
 use Rattle.mk_base.specs.declared.name.Name.{Name}
-use Rattle.mk_base.specs.declared.ty.Ty.{Ty}
 use Rattle.face_model.specs.declared.inst.Inst.{Inst}
 use Rattle.face_model.specs.declared.scheme.Constraint.{Constraint}
 use Rattle.class_env.specs.declared.given.Held.{Held}
 use Rattle.class_env.specs.Terms.{Term, Var, term_of}
-use Rattle.class_env.specs.Spine.{Head, Variable, Constructor, head, arguments, place}
+use Rattle.class_env.specs.Spine.{Variable, Constructor, head, arguments, place}
 use Rattle.class_env.specs.Instances.{Only, No, One, Several, only_of}
 use Rattle.class_env.specs.Supers.{Gives}
 use Rattle.class_env.specs.Entails.{Known, KnownIn, HeldAt, Entails, by_given, by_instance, HoldsAt, Holds, ByOnly}

@@ -1,12 +1,12 @@
 -- A type is made again from its term, so two types with one term are one.
-use Rattle.std.proofs.Common.{◌≡◌, ℕ, sym, ◌∙◌, ap, subst, refl}
+use Rattle.std.proofs.Common.{◌≡◌, ℕ, sym, ◌∙◌, ap, subst}
 use Rattle.mk_base.specs.declared.name.Name.{Name}
 use Rattle.mk_base.specs.declared.ty.Ty.{Ty}
 use Rattle.mk_base.specs.declared.ty.Ty.TheOpen.{Ty-F}
 use Rattle.mk_base.specs.declared.ty.Ty.TheOpen.Ty-F.{Var as Variable, Con as Constructor, App as Application}
 use Rattle.mk_base.specs.declared.ty.Ty.TheVariants as types
 use Rattle.mk_base.specs.declared.ty.Ty.TheVariants.{rolls-Var, rolls-Con, rolls-App}
-use Rattle.mk_base.specs.declared.ty.Ty.TheFolds.{fold-Ty, fold-roll-Ty, ind-Ty, map-Ty}
+use Rattle.mk_base.specs.declared.ty.Ty.TheFolds.{fold-roll-Ty, ind-Ty, map-Ty}
 use Rattle.mk_base.specs.declared.ty.Ty.TheViews.{roll-Ty}
 use Rattle.class_env.specs.Terms.{Term, Var, Con, App, term_step, term_of}
 

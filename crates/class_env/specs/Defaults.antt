@@ -1,5 +1,5 @@
 -- Defaults of variables (Haskell 2010 Report, section 4.3.4).
-use Rattle.std.specs.Prelude.{ℕ, ◌≡◌, ◌⊎◌, List, Option, Some, None, Bool, true, false, ◌||◌, nat_eq, codes}
+use Rattle.std.specs.Prelude.{ℕ, ◌≡◌, ◌⊎◌, List, Option, Some, None, Bool, false, ◌||◌, nat_eq, codes}
 use Rattle.std.specs.List.{Contains}
 use Rattle.mk_base.specs.declared.name.Name.{Name}
 use Rattle.mk_base.specs.declared.name.Space.TheVariants as spaces

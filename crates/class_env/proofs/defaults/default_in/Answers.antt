@@ -1,4 +1,4 @@
-use Rattle.std.proofs.Common.{◌≡◌, ◌∙◌, inl, sym, subst}
+use Rattle.std.proofs.Common.{◌∙◌, inl, sym, subst}
 use Rattle.face_model.specs.Environments.{Faces, insts_of}
 use Rattle.class_env.specs.Supers.{supers_of}
 use Rattle.class_env.specs.Defaults.{Fits}

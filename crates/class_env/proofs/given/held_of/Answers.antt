@@ -1,7 +1,6 @@
 use Rattle.std.proofs.Common.{◌↔◌, ◌∙◌, List, sym, subst, refl}
 use Rattle.std.specs.List.{Contains}
 use Rattle.std.proofs.lemmas.List.{take_all}
-use Rattle.mk_base.specs.declared.name.Name.{Name}
 use Rattle.face_model.specs.declared.scheme.Constraint.{Constraint}
 use Rattle.face_model.specs.Environments.{Faces}
 use Rattle.class_env.specs.Supers.{supers_of, Gives}
