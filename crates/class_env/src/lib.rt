@@ -1,4 +1,4 @@
-//! Constraints over an environment: reducing by instances.
+//! Constraints over an environment: reducing by instances, what follows from given ones, and defaults of variables.
 #![tactic(auto)]
 
 pub mod choice;
