@@ -1,6 +1,6 @@
 //! An environment of one face.
-ghost use Rattle.std.specs.Prelude.{◌≡◌, [], ◌∷◌, find, filter, IfOk};
-ghost use Rattle.face_model.specs.Formed.{FaceFormed};
+ghost use Rattle.std.specs.Prelude.{◌≡◌, [], find, filter, IfOk};
+ghost use Rattle.mk_base.specs.Order.{place_of_space};
 ghost use Rattle.face_model.specs.Environments.{same_name, decl_in, with_prints, is_inst};
 
 use crate::formed::is_formed;
@@ -12,16 +12,33 @@ use face_model::inst::Inst;
 use mk_base::fingerprint::Fingerprint;
 use mk_base::list::List;
 use mk_base::memory::NoMemory;
-use mk_base::name::{ModName, Name};
+use mk_base::name::{ModName, Name, Space};
 use mk_base::plain::Plain;
 use std::alloc::Global;
+use std::marker::Model;
 
 /// An environment that has one face. It is asked for declarations and instances alone, and answers the other questions
 /// with want of memory.
 #[derive(Drop)]
 pub struct OneFace {
     face: Face,
-    ghost formed: { FaceFormed face },
+}
+
+impl Model for OneFace {
+    ghost use Rattle.std.specs.Prelude.{[], ◌∷◌};
+    ghost use Rattle.std.specs.Coded.{codes};
+    ghost use Rattle.mk_base.specs.contracts.ty.Ty as e;
+    ghost use Rattle.mk_base.specs.contracts.kind.Kind as k;
+    ghost use Rattle.face_model.specs.Environments.{Known, Faces};
+    ghost use Rattle.face_model.specs.Formed.{FaceFormed};
+
+    ghost Value = { Faces };
+
+    ghost coded = { Prim.hlevel (codes, e.the_row.coded, k.the_row.coded) };
+
+    ghost view = { λ it. record { face = it.face; prints = [] } ∷ [] };
+
+    ghost invariant = { λ it. FaceFormed it.face };
 }
 
 /// The environment of a face; None where the face isn't formed, or declares anything but classes without methods.
@@ -33,10 +50,22 @@ pub fn over(face: Face) -> Option<OneFace> {
     }
 }
 
+fn rank(space: Space) -> u8
+    ensures { result ≡ place_of_space space }
+{
+    match space {
+        Space::Var => 0,
+        Space::Con => 1,
+        Space::Ty => 2,
+    }
+}
+
 fn is_same(a: &Name, b: &Name) -> bool
     ensures { result ≡ same_name a.now b.now }
 {
-    *a == *b
+    a.unit.text == b.unit.text
+        && (a.module.text == b.module.text
+            && (rank(a.occ.space) == rank(b.occ.space) && a.occ.text == b.occ.text))
 }
 
 fn first(alloc: Global, decls: &[Decl], name: &Name) -> Result<Option<Decl>, NoMemory>
@@ -69,7 +98,7 @@ fn all_of(alloc: Global, insts: &[Inst], class: &Name, head: &Name) -> Result<Li
 }
 
 impl Env for OneFace {
-    ghost faces = { λ e. record { face = e.face; prints = [] } ∷ [] };
+    ghost faces = { λ it. it };
 
     fn lookup(&mut self, alloc: Global, name: &Name) -> Result<Option<Decl>, NoMemory> {
         first(alloc, self.face.decls.as_slice(), name)
@@ -86,22 +115,17 @@ impl Env for OneFace {
         _head: &Name,
         _module: &ModName,
     ) -> Result<usize, NoMemory> {
+        let _ = &self.face;
         Err(NoMemory)
     }
 
-    fn exports(
-        &mut self,
-        _alloc: Global,
-        _module: &ModName,
-    ) -> Result<Option<List<Export>>, NoMemory> {
+    fn exports(&mut self, _alloc: Global, _module: &ModName) -> Result<Option<List<Export>>, NoMemory> {
+        let _ = &self.face;
         Err(NoMemory)
     }
 
-    fn fingerprint(
-        &mut self,
-        _alloc: Global,
-        _name: &Name,
-    ) -> Result<Option<Fingerprint>, NoMemory> {
+    fn fingerprint(&mut self, _alloc: Global, _name: &Name) -> Result<Option<Fingerprint>, NoMemory> {
+        let _ = &self.face;
         Err(NoMemory)
     }
 }

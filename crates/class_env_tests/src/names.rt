@@ -65,6 +65,7 @@ pub fn constructor(alloc: Global, letter: u8) -> Result<Name, NoMemory> {
 
 /// A type in prefix form, and what is behind it: `@` is an application, a digit a variable, any other sign a constructor.
 /// What lacks is `?`.
+#[cycle(reading)]
 pub fn ty(alloc: Global, left: usize, text: &[u8]) -> Result<(Ty, &[u8]), NoMemory> {
     if left == 0 {
         return Ok((Ty::Con(constructor(alloc, b'?')?), text));
@@ -76,6 +77,7 @@ pub fn ty(alloc: Global, left: usize, text: &[u8]) -> Result<(Ty, &[u8]), NoMemo
 }
 
 /// A type behind its first sign.
+#[cycle(reading)]
 fn ty_as(alloc: Global, left: usize, sign: u8, text: &[u8]) -> Result<(Ty, &[u8]), NoMemory> {
     if sign == b'@' {
         let (f, rest) = ty(alloc, left, text)?;
