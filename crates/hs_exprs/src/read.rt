@@ -7,6 +7,7 @@
 ghost use Rattle.std.specs.Prelude.{◌≡◌, [], false, IfOk};
 ghost use Rattle.hs_syntax.specs.Reading.{seen};
 ghost use Rattle.expr_parts.specs.Expressions as spec;
+ghost use Rattle.hs_exprs.specs.Arms as arms;
 
 use expr_parts::close::{
     comprehension, left_section, list, lone_list, open_range, range, right_section, tuple,
@@ -483,7 +484,7 @@ fn simple<'a>(alloc: Global, left: usize, tokens: &'a [Token]) -> Found<'a, Boxe
 /// An atomic expression in parentheses or brackets.
 #[cycle(expression)]
 fn nested<'a>(alloc: Global, left: usize, tokens: &'a [Token]) -> Found<'a, Boxed<AexpTree>>
-    ensures { IfOk result (λ r. seen r ≡ spec.nested_at (spec.forms left) tokens.now) }
+    ensures { IfOk result (λ r. seen r ≡ arms.nested_at (spec.forms left) tokens.now) }
 {
     match first_of(tokens) {
         None => Ok(None),
@@ -1065,7 +1066,7 @@ pub fn decl<'a>(alloc: Global, left: usize, tokens: &'a [Token]) -> Found<'a, Bo
 /// A clause as a declaration.
 #[cycle(expression)]
 fn clause_item<'a>(alloc: Global, left: usize, tokens: &'a [Token]) -> Found<'a, Boxed<DeclTree>>
-    ensures { IfOk result (λ r. seen r ≡ spec.clause_item_at (spec.forms left) tokens.now) }
+    ensures { IfOk result (λ r. seen r ≡ arms.clause_item_at (spec.forms left) tokens.now) }
 {
     match clause(alloc, left, tokens)? {
         None => Ok(None),
