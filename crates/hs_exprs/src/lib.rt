@@ -4,6 +4,7 @@
 
 pub mod parse;
 pub mod read;
+mod side;
 
 pub use hs_nesting::nesting::nesting;
 pub use hs_parts::parse::{parse_pattern, parse_type};

@@ -9,6 +9,7 @@ ghost use Rattle.hs_syntax.specs.Reading.{seen};
 ghost use Rattle.expr_parts.specs.Expressions as spec;
 ghost use Rattle.hs_exprs.specs.Arms as arms;
 
+use crate::side::{side, whole_clause};
 use expr_parts::close::{
     comprehension, left_section, list, lone_list, open_range, range, right_section, tuple,
 };
@@ -21,13 +22,12 @@ use expr_parts::part::{
 };
 use expr_parts::piece::{Body, Chain, Operand, Part};
 use expr_parts::tree::{
-    alt_of, apply_of, arm_of, bind_guard, case_of, clause_decl, clause_of, closed_chain, do_of,
+    alt_of, apply_of, arm_of, bind_guard, case_of, clause_decl, closed_chain, do_of,
     is_test, let_chain, let_guard, let_test, one_exp, open_chain, push_alt, push_arg, push_arm,
     push_decl, push_exp, push_field, push_guard, push_link, push_qual, push_stmt, push_update,
     test_guard, two_exps, updated,
 };
 use hs_parts::names::{Found, qvar};
-use hs_sides::lhs::lhs;
 use hs_syntax::behind::{
     behind_bar, behind_close_square, behind_comma, behind_dots, behind_equals, behind_in,
     behind_of, behind_where,
@@ -37,6 +37,7 @@ use hs_syntax::expr_tree::{
     QualTree,
 };
 use hs_syntax::name_ref::QopTree;
+use hs_syntax::pattern_tree::LhsTree;
 use hs_syntax::sign::{Sign, first_of};
 use hs_syntax::token::Token;
 use mk_base::place::Pos;
@@ -1085,14 +1086,25 @@ pub fn clause<'a>(alloc: Global, left: usize, tokens: &'a [Token]) -> Found<'a, 
     if left == 0 {
         return Ok(None);
     }
-    match lhs(alloc, tokens)? {
+    match side(alloc, tokens)? {
         None => Ok(None),
-        Some((side, rest)) => match body(alloc, left - 1, false, rest)? {
-            None => Ok(None),
-            Some((body, end)) => {
-                let made = clause_of(alloc, place_of(tokens), side, place_of(rest), body)?;
-                Ok(Some((made, end)))
-            }
-        },
+        Some((side, rest)) => clause_body(alloc, left - 1, place_of(tokens), side, rest),
+    }
+}
+
+/// Behind the left side of a clause at a place: its body.
+#[cycle(expression)]
+fn clause_body<'a>(
+    alloc: Global,
+    left: usize,
+    at: Pos,
+    side: Boxed<LhsTree>,
+    tokens: &'a [Token],
+) -> Found<'a, Boxed<Clause>>
+    ensures { IfOk result (λ r. seen r ≡ arms.clause_body_at (spec.forms left) at side tokens.now) }
+{
+    match body(alloc, left, false, tokens)? {
+        None => Ok(None),
+        Some((body, end)) => whole_clause(alloc, at, side, place_of(tokens), body, end),
     }
 }

@@ -114,6 +114,9 @@ decreases-nested l = 3 * l.left + 1
 abbrev pub decreases-clause_item : goal.decreases-clause_item
 decreases-clause_item l = 3 * l.left + 1
 
+abbrev pub decreases-clause_body : goal.decreases-clause_body
+decreases-clause_body l = 3 * l.left + 1
+
 abbrev pub decreases-block : goal.decreases-block
 decreases-block l = 3 * l.left + 1
 
