@@ -84,19 +84,21 @@ fn chain<'a>(
         let (minus, inside) = after_minus(rest);
         match operand(alloc, left, tail, inside)? {
             None => return Ok(None),
-            Some((Operand::Open(last), behind)) => {
-                let made = open_chain(alloc, at, links, place, minus, last)?;
-                return Ok(Some((made, behind)));
-            }
-            Some((Operand::Closed(last), behind)) => match infix(alloc, behind)? {
-                None => {
-                    let made = closed_chain(alloc, at, links, place, minus, last)?;
+            Some((part, behind)) => match part {
+                Operand::Open(last) => {
+                    let made = open_chain(alloc, at, links, place, minus, last)?;
                     return Ok(Some((made, behind)));
                 }
-                Some((op, next)) => {
-                    push_link(&mut links, place, minus, last, op)?;
-                    rest = next;
-                }
+                Operand::Closed(last) => match infix(alloc, behind)? {
+                    None => {
+                        let made = closed_chain(alloc, at, links, place, minus, last)?;
+                        return Ok(Some((made, behind)));
+                    }
+                    Some((op, next)) => {
+                        push_link(&mut links, place, minus, last, op)?;
+                        rest = next;
+                    }
+                },
             },
         }
     }

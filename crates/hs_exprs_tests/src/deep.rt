@@ -38,157 +38,58 @@ fn is_row(alloc: Global, row: Row) -> bool {
     }
 }
 
-#[test]
-fn lets_200(rt: HostRuntime) {
-    assert!(rt; is_row(rt.alloc(), (200, b"", b"let {x = ", b"x", b"} in x", b"")));
+fn are_rows(alloc: Global, rows: &[Row]) -> bool {
+    for row in rows {
+        if !is_row(alloc, *row) {
+            return false;
+        }
+    }
+    true
 }
 
+/// Brackets, as deep as they may nest.
 #[test]
-fn lets_250(rt: HostRuntime) {
-    assert!(rt; is_row(rt.alloc(), (250, b"", b"let {x = ", b"x", b"} in x", b"")));
+fn deep_brackets(rt: HostRuntime) {
+    const ROWS: [Row; 10] = [
+        (500, b"", b"(", b"x", b")", b""),
+        (500, b"", b"(x, ", b"x", b")", b""),
+        (500, b"", b"[", b"x", b"]", b""),
+        (500, b"", b"[x, x, ", b"x", b"]", b""),
+        (500, b"", b"[x, x .. ", b"x", b"]", b""),
+        (500, b"", b"[x | x <- ", b"x", b"]", b""),
+        (166, b"", b"[x | let {x = ", b"x", b"}]", b""),
+        (500, b"", b"x {x = ", b"x", b"}", b""),
+        (250, b"", b"(+ ", b"x", b")", b""),
+        (499, b"", b"(", b"x", b" +)", b""),
+    ];
+    assert!(rt; are_rows(rt.alloc(), &ROWS));
 }
 
+/// Words and blocks, as deep as they may nest.
 #[test]
-fn wheres_300(rt: HostRuntime) {
-    assert!(rt; is_row(rt.alloc(), (300, b"let {x = ", b"x where {x = ", b"x", b"}", b"} in x")));
+fn deep_words(rt: HostRuntime) {
+    const ROWS: [Row; 8] = [
+        (250, b"", b"\\x -> ", b"x", b"", b""),
+        (250, b"", b"let {x = ", b"x", b"} in x", b""),
+        (500, b"", b"let {} in ", b"x", b"", b""),
+        (500, b"", b"if ", b"x", b" then x else x", b""),
+        (500, b"", b"if x then x else ", b"x", b"", b""),
+        (500, b"", b"case ", b"x", b" of {}", b""),
+        (166, b"", b"case x of {x -> ", b"x", b"}", b""),
+        (250, b"", b"do {x <- ", b"x", b"; x}", b""),
+    ];
+    assert!(rt; are_rows(rt.alloc(), &ROWS));
 }
 
+/// Guards and `where`, as deep as they may nest.
 #[test]
-fn wheres_350(rt: HostRuntime) {
-    assert!(rt; is_row(rt.alloc(), (350, b"let {x = ", b"x where {x = ", b"x", b"}", b"} in x")));
-}
-
-#[test]
-fn wheres_400(rt: HostRuntime) {
-    assert!(rt; is_row(rt.alloc(), (400, b"let {x = ", b"x where {x = ", b"x", b"}", b"} in x")));
-}
-
-#[test]
-fn wheres_500(rt: HostRuntime) {
-    assert!(rt; is_row(rt.alloc(), (500, b"let {x = ", b"x where {x = ", b"x", b"}", b"} in x")));
-}
-
-#[test]
-fn guards_250(rt: HostRuntime) {
-    assert!(rt; is_row(rt.alloc(), (250, b"", b"case x of {x | ", b"x", b" -> x}", b"")));
-}
-
-#[test]
-fn guards_400(rt: HostRuntime) {
-    assert!(rt; is_row(rt.alloc(), (400, b"", b"case x of {x | ", b"x", b" -> x}", b"")));
-}
-
-#[test]
-fn guard_lets_250(rt: HostRuntime) {
-    assert!(rt; is_row(rt.alloc(), (250, b"let {x ", b"| let {x = x} = x where {x ", b"= x", b"}", b"} in x")));
-}
-
-#[test]
-fn guard_lets_300(rt: HostRuntime) {
-    assert!(rt; is_row(rt.alloc(), (300, b"let {x ", b"| let {x = x} = x where {x ", b"= x", b"}", b"} in x")));
-}
-
-#[test]
-fn guard_lets_400(rt: HostRuntime) {
-    assert!(rt; is_row(rt.alloc(), (400, b"let {x ", b"| let {x = x} = x where {x ", b"= x", b"}", b"} in x")));
-}
-
-#[test]
-fn guard_lets_500(rt: HostRuntime) {
-    assert!(rt; is_row(rt.alloc(), (500, b"let {x ", b"| let {x = x} = x where {x ", b"= x", b"}", b"} in x")));
-}
-
-#[test]
-fn guard_lets_two_125(rt: HostRuntime) {
-    assert!(rt; is_row(rt.alloc(), (125, b"let {x ", b"| let {x ", b"= x", b"}, x = x", b"} in x")));
-}
-
-#[test]
-fn guard_lets_two_160(rt: HostRuntime) {
-    assert!(rt; is_row(rt.alloc(), (160, b"let {x ", b"| let {x ", b"= x", b"}, x = x", b"} in x")));
-}
-
-#[test]
-fn guard_lets_two_200(rt: HostRuntime) {
-    assert!(rt; is_row(rt.alloc(), (200, b"let {x ", b"| let {x ", b"= x", b"}, x = x", b"} in x")));
-}
-
-#[test]
-fn guard_lets_two_250(rt: HostRuntime) {
-    assert!(rt; is_row(rt.alloc(), (250, b"let {x ", b"| let {x ", b"= x", b"}, x = x", b"} in x")));
-}
-
-#[test]
-fn tuples_400(rt: HostRuntime) {
-    assert!(rt; is_row(rt.alloc(), (400, b"", b"(x, ", b"x", b")", b"")));
-}
-
-#[test]
-fn tuples_500(rt: HostRuntime) {
-    assert!(rt; is_row(rt.alloc(), (500, b"", b"(x, ", b"x", b")", b"")));
-}
-
-#[test]
-fn thirds_400(rt: HostRuntime) {
-    assert!(rt; is_row(rt.alloc(), (400, b"", b"[x, x, ", b"x", b"]", b"")));
-}
-
-#[test]
-fn thirds_500(rt: HostRuntime) {
-    assert!(rt; is_row(rt.alloc(), (500, b"", b"[x, x, ", b"x", b"]", b"")));
-}
-
-#[test]
-fn ranges_two_400(rt: HostRuntime) {
-    assert!(rt; is_row(rt.alloc(), (400, b"", b"[x, x .. ", b"x", b"]", b"")));
-}
-
-#[test]
-fn ranges_two_500(rt: HostRuntime) {
-    assert!(rt; is_row(rt.alloc(), (500, b"", b"[x, x .. ", b"x", b"]", b"")));
-}
-
-#[test]
-fn comps_400(rt: HostRuntime) {
-    assert!(rt; is_row(rt.alloc(), (400, b"", b"[x | x <- ", b"x", b"]", b"")));
-}
-
-#[test]
-fn comps_500(rt: HostRuntime) {
-    assert!(rt; is_row(rt.alloc(), (500, b"", b"[x | x <- ", b"x", b"]", b"")));
-}
-
-#[test]
-fn comps_let_166(rt: HostRuntime) {
-    assert!(rt; is_row(rt.alloc(), (166, b"", b"[x | let {x = ", b"x", b"}]", b"")));
-}
-
-#[test]
-fn comps_let_200(rt: HostRuntime) {
-    assert!(rt; is_row(rt.alloc(), (200, b"", b"[x | let {x = ", b"x", b"}]", b"")));
-}
-
-#[test]
-fn do_let_125(rt: HostRuntime) {
-    assert!(rt; is_row(rt.alloc(), (125, b"", b"do {let {x = ", b"x", b"}; x}", b"")));
-}
-
-#[test]
-fn do_let_200(rt: HostRuntime) {
-    assert!(rt; is_row(rt.alloc(), (200, b"", b"do {let {x = ", b"x", b"}; x}", b"")));
-}
-
-#[test]
-fn arms_300(rt: HostRuntime) {
-    assert!(rt; is_row(rt.alloc(), (300, b"let {x ", b"| x = x where {x ", b"= x", b"}", b"} in x")));
-}
-
-#[test]
-fn arms_400(rt: HostRuntime) {
-    assert!(rt; is_row(rt.alloc(), (400, b"let {x ", b"| x = x where {x ", b"= x", b"}", b"} in x")));
-}
-
-#[test]
-fn arms_500(rt: HostRuntime) {
-    assert!(rt; is_row(rt.alloc(), (500, b"let {x ", b"| x = x where {x ", b"= x", b"}", b"} in x")));
+fn deep_bodies(rt: HostRuntime) {
+    const ROWS: [Row; 5] = [
+        (498, b"let {x = ", b"x where {x = ", b"x", b"}", b"} in x"),
+        (498, b"let {x ", b"| x = x where {x ", b"= x", b"}", b"} in x"),
+        (249, b"", b"case x of {x | ", b"x", b" -> x}", b""),
+        (249, b"let {x ", b"| let {x ", b"= x", b"}, x = x", b"} in x"),
+        (125, b"", b"do {let {x = ", b"x", b"}; x}", b""),
+    ];
+    assert!(rt; are_rows(rt.alloc(), &ROWS));
 }
