@@ -7,7 +7,7 @@
 ghost use Rattle.std.specs.Prelude.{◌≡◌, [], false, IfOk};
 ghost use Rattle.hs_syntax.specs.Reading.{seen};
 ghost use Rattle.expr_parts.specs.Expressions as spec;
-ghost use Rattle.hs_exprs.specs.Arms as arms;
+ghost use Rattle.hs_exprs.specs.Arms as steps;
 
 use crate::side::{side, whole_clause};
 use expr_parts::close::{
@@ -37,7 +37,7 @@ use hs_syntax::expr_tree::{
     QualTree,
 };
 use hs_syntax::name_ref::QopTree;
-use hs_syntax::pattern_tree::LhsTree;
+use hs_syntax::pattern_tree::{LhsTree, PatTree};
 use hs_syntax::sign::{Sign, first_of};
 use hs_syntax::token::Token;
 use mk_base::place::Pos;
@@ -487,7 +487,7 @@ fn simple<'a>(alloc: Global, left: usize, tokens: &'a [Token]) -> Found<'a, Boxe
 /// An atomic expression in parentheses or brackets.
 #[cycle(expression)]
 fn nested<'a>(alloc: Global, left: usize, tokens: &'a [Token]) -> Found<'a, Boxed<AexpTree>>
-    ensures { IfOk result (λ r. seen r ≡ arms.nested_at (spec.forms left) tokens.now) }
+    ensures { IfOk result (λ r. seen r ≡ steps.nested_at (spec.forms left) tokens.now) }
 {
     match first_of(tokens) {
         None => Ok(None),
@@ -755,16 +755,29 @@ fn part<'a>(alloc: Global, left: usize, tokens: &'a [Token]) -> Found<'a, Part>
         Some(first) => match first.sign {
             Sign::Let => let_part(alloc, left - 1, first.token.at, first.rest),
             _ => match bound(alloc, left - 1, tokens)? {
-                Some((pattern, rest)) => match exp(alloc, left - 1, false, rest)? {
-                    None => Ok(None),
-                    Some((value, end)) => Ok(Some((Part::Bind(pattern, value), end))),
-                },
+                Some((pattern, rest)) => bind_part(alloc, left - 1, pattern, rest),
                 None => match exp(alloc, left - 1, false, tokens)? {
                     None => Ok(None),
                     Some((value, end)) => Ok(Some((Part::Test(value), end))),
                 },
             },
         },
+    }
+}
+
+/// Behind the `<-` of a qualifier or a statement: its expression.
+#[cycle(expression)]
+fn bind_part<'a>(
+    alloc: Global,
+    left: usize,
+    pattern: Boxed<PatTree>,
+    tokens: &'a [Token],
+) -> Found<'a, Part>
+    ensures { IfOk result (λ r. seen r ≡ steps.bind_part_at (spec.forms left) pattern tokens.now) }
+{
+    match exp(alloc, left, false, tokens)? {
+        None => Ok(None),
+        Some((value, end)) => Ok(Some((Part::Bind(pattern, value), end))),
     }
 }
 
@@ -949,15 +962,7 @@ fn guard_of_chain<'a>(
     ensures { IfOk result (λ r. seen r ≡ spec.chain_guard_at (spec.forms left) left in_alternative at tokens.now) }
 {
     match bound(alloc, left, tokens)? {
-        Some((pattern, rest)) => {
-            match chain(alloc, left, in_alternative, place_of(rest), rest)? {
-                None => Ok(None),
-                Some((chain, end)) => {
-                    let made = bind_guard(alloc, at, pattern, chain)?;
-                    Ok(Some((made, end)))
-                }
-            }
-        }
+        Some((pattern, rest)) => bound_guard(alloc, left, in_alternative, at, pattern, rest),
         None => match chain(alloc, left, in_alternative, place_of(tokens), tokens)? {
             None => Ok(None),
             Some((chain, end)) => {
@@ -965,6 +970,27 @@ fn guard_of_chain<'a>(
                 Ok(Some((made, end)))
             }
         },
+    }
+}
+
+/// Behind the `<-` of a guard at a place: its chain.
+#[cycle(expression)]
+fn bound_guard<'a>(
+    alloc: Global,
+    left: usize,
+    in_alternative: bool,
+    at: Pos,
+    pattern: Boxed<PatTree>,
+    tokens: &'a [Token],
+) -> Found<'a, Boxed<GuardTree>>
+    ensures { IfOk result (λ r. seen r ≡ steps.bound_guard_at (spec.forms left) in_alternative at pattern tokens.now) }
+{
+    match chain(alloc, left, in_alternative, place_of(tokens), tokens)? {
+        None => Ok(None),
+        Some((chain, end)) => {
+            let made = bind_guard(alloc, at, pattern, chain)?;
+            Ok(Some((made, end)))
+        }
     }
 }
 
@@ -1069,7 +1095,7 @@ pub fn decl<'a>(alloc: Global, left: usize, tokens: &'a [Token]) -> Found<'a, Bo
 /// A clause as a declaration.
 #[cycle(expression)]
 fn clause_item<'a>(alloc: Global, left: usize, tokens: &'a [Token]) -> Found<'a, Boxed<DeclTree>>
-    ensures { IfOk result (λ r. seen r ≡ arms.clause_item_at (spec.forms left) tokens.now) }
+    ensures { IfOk result (λ r. seen r ≡ steps.clause_item_at (spec.forms left) tokens.now) }
 {
     match clause(alloc, left, tokens)? {
         None => Ok(None),
@@ -1103,7 +1129,7 @@ fn clause_body<'a>(
     side: Boxed<LhsTree>,
     tokens: &'a [Token],
 ) -> Found<'a, Boxed<Clause>>
-    ensures { IfOk result (λ r. seen r ≡ arms.clause_body_at (spec.forms left) at side tokens.now) }
+    ensures { IfOk result (λ r. seen r ≡ steps.clause_body_at (spec.forms left) at side tokens.now) }
 {
     match body(alloc, left, false, tokens)? {
         None => Ok(None),

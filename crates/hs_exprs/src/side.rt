@@ -2,7 +2,7 @@
 ghost use Rattle.std.specs.Prelude.{◌≡◌, IfOk};
 ghost use Rattle.hs_syntax.specs.Reading.{seen};
 ghost use Rattle.hs_parts.specs.SideReaders.{side_at};
-ghost use Rattle.hs_exprs.specs.Arms as arms;
+ghost use Rattle.hs_exprs.specs.Arms as steps;
 
 use expr_parts::piece::Body;
 use expr_parts::tree::clause_of;
@@ -17,7 +17,7 @@ use std::alloc::Global;
 
 /// A left side in a box, with the tokens behind it.
 fn boxed_side<'a>(alloc: Global, tree: LhsTree, rest: &'a [Token]) -> Found<'a, Boxed<LhsTree>>
-    ensures { IfOk result (λ r. seen r ≡ arms.found_side tree rest.now) }
+    ensures { IfOk result (λ r. seen r ≡ steps.found_side tree rest.now) }
 {
     let made = Boxed::new(alloc, tree)?;
     Ok(Some((made, rest)))
@@ -42,7 +42,7 @@ pub fn whole_clause<'a>(
     body: Body,
     rest: &'a [Token],
 ) -> Found<'a, Boxed<Clause>>
-    ensures { IfOk result (λ r. seen r ≡ arms.found_clause at side place body rest.now) }
+    ensures { IfOk result (λ r. seen r ≡ steps.found_clause at side place body rest.now) }
 {
     let made = clause_of(alloc, at, side.into_inner(), place, body)?;
     Ok(Some((made, rest)))

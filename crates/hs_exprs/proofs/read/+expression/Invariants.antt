@@ -130,7 +130,13 @@ abbrev pub decreases-in_brackets : goal.decreases-in_brackets
 decreases-in_brackets l = 3 * l.left + 1
 
 abbrev pub decreases-guard_of_chain : goal.decreases-guard_of_chain
-decreases-guard_of_chain l = 3 * l.left + 1
+decreases-guard_of_chain l = 3 * l.left + 2
+
+abbrev pub decreases-bound_guard : goal.decreases-bound_guard
+decreases-bound_guard l = 3 * l.left + 1
+
+abbrev pub decreases-bind_part : goal.decreases-bind_part
+decreases-bind_part l = 3 * l.left + 1
 
 abbrev pub invariant-chain-loop-left : goal.invariant-chain-loop-left
 invariant-chain-loop-left l = (l.left ≤ l.fn.left) × ((forms l.left).chain l.fn.tail l.fn.at l.links.items l.rest ≡ (forms l.fn.left).chain l.fn.tail l.fn.at [] l.fn.tokens)
