@@ -22,10 +22,10 @@ use expr_parts::part::{
 };
 use expr_parts::piece::{Body, Chain, Operand, Part};
 use expr_parts::tree::{
-    alt_of, apply_of, arm_of, bind_guard, case_of, clause_decl, closed_chain, do_of,
-    is_test, let_chain, let_guard, let_test, one_exp, open_chain, push_alt, push_arg, push_arm,
-    push_decl, push_exp, push_field, push_guard, push_link, push_qual, push_stmt, push_update,
-    test_guard, two_exps, updated,
+    alt_of, apply_of, arm_of, bind_guard, case_of, clause_decl, closed_chain, do_of, is_test,
+    let_chain, let_guard, let_test, one_exp, open_chain, push_alt, push_arg, push_arm, push_decl,
+    push_exp, push_field, push_guard, push_link, push_qual, push_stmt, push_update, test_guard,
+    two_exps, updated,
 };
 use hs_parts::names::{Found, qvar};
 use hs_syntax::behind::{

@@ -86,9 +86,23 @@ fn deep_words(rt: HostRuntime) {
 fn deep_bodies(rt: HostRuntime) {
     const ROWS: [Row; 5] = [
         (498, b"let {x = ", b"x where {x = ", b"x", b"}", b"} in x"),
-        (498, b"let {x ", b"| x = x where {x ", b"= x", b"}", b"} in x"),
+        (
+            498,
+            b"let {x ",
+            b"| x = x where {x ",
+            b"= x",
+            b"}",
+            b"} in x",
+        ),
         (249, b"", b"case x of {x | ", b"x", b" -> x}", b""),
-        (249, b"let {x ", b"| let {x ", b"= x", b"}, x = x", b"} in x"),
+        (
+            249,
+            b"let {x ",
+            b"| let {x ",
+            b"= x",
+            b"}, x = x",
+            b"} in x",
+        ),
         (125, b"", b"do {let {x = ", b"x", b"}; x}", b""),
     ];
     assert!(rt; are_rows(rt.alloc(), &ROWS));

@@ -1,5 +1,7 @@
 //! Expressions and the declarations in them, in rows.
-use crate::show_names::{Out, put, put_place, show_con, show_gcon, show_literal, show_op, show_var};
+use crate::show_names::{
+    Out, put, put_place, show_con, show_gcon, show_literal, show_op, show_var,
+};
 use crate::show_patterns::{show_apats, show_pattern, show_side};
 use crate::show_types::{show_fix, show_qualified, show_sig};
 use hs_syntax::expr_tree::{
