@@ -34,7 +34,7 @@ found_clause at l p b ts = Some (clause at l (rhs_of p b), ts)
 
 -- behind a left side: the body
 abbrev pub clause_body_at : Forms → Pos → LhsTree → List Token → Found Clause
-clause_body_at r at l ts = and_then (r.body false ts) (λ b end. found_clause at l (place ts) b end)
+clause_body_at r at l ts = and_then (r.body false ts) (λ b end. Some (clause at l (rhs_of (place ts) b), end))
 
 -- behind the <- of a qualifier or a statement: the expression
 abbrev pub bind_part_at : Forms → PatTree → List Token → Found Part

@@ -145,7 +145,7 @@ abbrev pub decreases-chain-loop-left : goal.decreases-chain-loop-left
 decreases-chain-loop-left l = l.left
 
 abbrev pub invariant-alts-loop-left : goal.invariant-alts-loop-left
-invariant-alts-loop-left l = (l.left ≤ l.fn.left) × ((forms l.left).alts l.fn.at l.fn.subject l.fn.put l.alts.items l.rest ≡ (forms l.fn.left).alts l.fn.at l.fn.subject l.fn.put [] l.fn.tokens)
+invariant-alts-loop-left l = (l.left ≤ l.fn.left) × ((forms l.left).alts l.fn.at l.subject l.fn.put l.alts.items l.rest ≡ (forms l.fn.left).alts l.fn.at l.fn.subject l.fn.put [] l.fn.tokens)
 
 abbrev pub decreases-alts-loop-left : goal.decreases-alts-loop-left
 decreases-alts-loop-left l = l.left
@@ -163,7 +163,7 @@ abbrev pub decreases-apply-loop-left : goal.decreases-apply-loop-left
 decreases-apply-loop-left l = l.left
 
 abbrev pub invariant-updates-loop-left : goal.invariant-updates-loop-left
-invariant-updates-loop-left l = (l.left ≤ l.fn.left) × ((forms l.left).updates l.fn.at l.fn.tree l.updates.items l.rest ≡ (forms l.fn.left).updates l.fn.at l.fn.tree [] l.fn.tokens)
+invariant-updates-loop-left l = (l.left ≤ l.fn.left) × ((forms l.left).updates l.fn.at l.tree l.updates.items l.rest ≡ (forms l.fn.left).updates l.fn.at l.fn.tree [] l.fn.tokens)
 
 abbrev pub decreases-updates-loop-left : goal.decreases-updates-loop-left
 decreases-updates-loop-left l = l.left
