@@ -4,15 +4,13 @@
 //! where its nesting is over the limit, and `no lexemes` where it has a bad place.
 #![tactic(auto)]
 
-use hs_exprs::parse::parse_expr;
+use hs_exprs::{nesting, parse_expr};
 use hs_layout::braced::braced;
 use hs_lex::lex::lex;
-use hs_nesting::nesting::nesting;
 use hs_syntax::expr_tree::ExprTree;
 use hs_syntax::token::Token;
 use mk_base::list::List;
 use mk_base::memory::NoMemory;
-use sqlite_items::Boxed;
 use std::alloc::Global;
 use std::io;
 use tree_rows::exprs::show_expr;
@@ -26,11 +24,11 @@ struct Work {
     has_layout: bool,
 }
 
-fn put_found(out: &mut Out, found: &Option<Boxed<ExprTree>>) -> Result<(), NoMemory> {
+fn put_found(out: &mut Out, found: &Option<ExprTree>) -> Result<(), NoMemory> {
     match found {
         None => put(out, b"none\n"),
         Some(tree) => {
-            show_expr(out, tree.get())?;
+            show_expr(out, tree)?;
             put(out, b"\n")
         }
     }

@@ -1,3 +1,1 @@
-pub mod Grammar
-pub mod Expressions
-pub mod Whole
+pub mod Arms

@@ -1,13 +1,18 @@
 //! Expressions that nest deep.
-use hs_exprs::parse::parse_expr;
-use hs_lex::lex::lex;
-use hs_nesting::nesting::nesting;
-use hs_syntax::token::Token;
+use crate::rows::is_read;
 use mk_base::memory::NoMemory;
 use std::alloc::Global;
 
-/// How often two texts stand, the one in front, what stands in the middle, and the other one behind.
-type Row = (usize, &'static [u8], &'static [u8], &'static [u8]);
+/// How often two texts stand, what stands in front, the one text, what stands in the middle, the other text, and what stands
+/// behind.
+type Row = (
+    usize,
+    &'static [u8],
+    &'static [u8],
+    &'static [u8],
+    &'static [u8],
+    &'static [u8],
+);
 
 fn push_all(out: &mut Vec<u8>, part: &[u8], count: usize) -> Result<(), NoMemory> {
     for _ in 0..count {
@@ -18,31 +23,12 @@ fn push_all(out: &mut Vec<u8>, part: &[u8], count: usize) -> Result<(), NoMemory
 
 fn source_of(alloc: Global, row: Row) -> Result<Vec<u8>, NoMemory> {
     let mut source = Vec::new(alloc);
-    push_all(&mut source, row.1, row.0)?;
-    source.extend_from_slice(row.2)?;
-    push_all(&mut source, row.3, row.0)?;
+    source.extend_from_slice(row.1)?;
+    push_all(&mut source, row.2, row.0)?;
+    source.extend_from_slice(row.3)?;
+    push_all(&mut source, row.4, row.0)?;
+    source.extend_from_slice(row.5)?;
     Ok(source)
-}
-
-/// Whether some tokens nest no deeper than the limit, and are an expression.
-fn is_expr(alloc: Global, tokens: &[Token]) -> bool {
-    if nesting(tokens).is_some() {
-        return false;
-    }
-    match parse_expr(alloc, tokens) {
-        Ok(Some(_)) => true,
-        _ => false,
-    }
-}
-
-fn is_read(alloc: Global, source: &[u8]) -> bool {
-    if source.len() > 1048576 {
-        return false;
-    }
-    match lex(alloc, source) {
-        Ok(tokens) => is_expr(alloc, tokens.as_slice()),
-        Err(_) => false,
-    }
 }
 
 fn is_row(alloc: Global, row: Row) -> bool {
@@ -61,44 +47,63 @@ fn are_rows(alloc: Global, rows: &[Row]) -> bool {
     true
 }
 
-/// Brackets and braces at the limit.
+/// Brackets, as deep as they may nest.
 #[test]
 fn deep_brackets(rt: HostRuntime) {
-    const ROWS: [Row; 7] = [
-        (500, b"(", b"x", b")"),
-        (500, b"[", b"x", b"]"),
-        (500, b"[x | x <- ", b"y", b"]"),
-        (500, b"r {x = ", b"y", b"}"),
-        (500, b"f (", b"x", b")"),
-        (250, b"(+ ", b"x", b")"),
-        (250, b"(x - ", b"y", b")"),
+    const ROWS: [Row; 10] = [
+        (500, b"", b"(", b"x", b")", b""),
+        (500, b"", b"(x, ", b"x", b")", b""),
+        (500, b"", b"[", b"x", b"]", b""),
+        (500, b"", b"[x, x, ", b"x", b"]", b""),
+        (500, b"", b"[x, x .. ", b"x", b"]", b""),
+        (500, b"", b"[x | x <- ", b"x", b"]", b""),
+        (166, b"", b"[x | let {x = ", b"x", b"}]", b""),
+        (500, b"", b"x {x = ", b"x", b"}", b""),
+        (250, b"", b"(+ ", b"x", b")", b""),
+        (499, b"", b"(", b"x", b" +)", b""),
     ];
     assert!(rt; are_rows(rt.alloc(), &ROWS));
 }
 
-/// Words at the limit.
+/// Words and blocks, as deep as they may nest.
 #[test]
 fn deep_words(rt: HostRuntime) {
-    const ROWS: [Row; 6] = [
-        (250, b"\\x -> ", b"x", b""),
-        (500, b"let {} in ", b"x", b""),
-        (500, b"if a then b else ", b"c", b""),
-        (500, b"if ", b"a", b" then b else c"),
-        (500, b"case ", b"x", b" of {}"),
-        (250, b"let {x = ", b"y", b"} in x"),
+    const ROWS: [Row; 8] = [
+        (250, b"", b"\\x -> ", b"x", b"", b""),
+        (250, b"", b"let {x = ", b"x", b"} in x", b""),
+        (500, b"", b"let {} in ", b"x", b"", b""),
+        (500, b"", b"if ", b"x", b" then x else x", b""),
+        (500, b"", b"if x then x else ", b"x", b"", b""),
+        (500, b"", b"case ", b"x", b" of {}", b""),
+        (166, b"", b"case x of {x -> ", b"x", b"}", b""),
+        (250, b"", b"do {x <- ", b"x", b"; x}", b""),
     ];
     assert!(rt; are_rows(rt.alloc(), &ROWS));
 }
 
-/// Blocks at the limit.
+/// Guards and `where`, as deep as they may nest.
 #[test]
-fn deep_blocks(rt: HostRuntime) {
+fn deep_bodies(rt: HostRuntime) {
     const ROWS: [Row; 5] = [
-        (166, b"case x of {y -> ", b"z", b"}"),
-        (250, b"case x of {y | ", b"a", b" -> z}"),
-        (250, b"do {", b"x", b"}"),
-        (250, b"do {x <- ", b"y", b"; z}"),
-        (166, b"let {f = g where {f = ", b"x", b"}} in f"),
+        (498, b"let {x = ", b"x where {x = ", b"x", b"}", b"} in x"),
+        (
+            498,
+            b"let {x ",
+            b"| x = x where {x ",
+            b"= x",
+            b"}",
+            b"} in x",
+        ),
+        (249, b"", b"case x of {x | ", b"x", b" -> x}", b""),
+        (
+            249,
+            b"let {x ",
+            b"| let {x ",
+            b"= x",
+            b"}, x = x",
+            b"} in x",
+        ),
+        (125, b"", b"do {let {x = ", b"x", b"}; x}", b""),
     ];
     assert!(rt; are_rows(rt.alloc(), &ROWS));
 }

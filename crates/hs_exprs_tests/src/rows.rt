@@ -1,20 +1,20 @@
 //! Rows, and the expressions that their sources are.
-use hs_exprs::parse::parse_expr;
+use hs_exprs::parse_expr;
+use hs_exprs::nesting;
 use hs_lex::lex::lex;
 use hs_syntax::expr_tree::ExprTree;
 use hs_syntax::token::Token;
 use mk_base::list::List;
 use mk_base::memory::NoMemory;
-use sqlite_items::Boxed;
 use std::alloc::Global;
 use std::process::Abort;
 use tree_rows::exprs::show_expr;
 use tree_rows::names::{Out, put};
 
-fn show_found(out: &mut Out, found: &Option<Boxed<ExprTree>>) -> Result<(), NoMemory> {
+fn show_found(out: &mut Out, found: &Option<ExprTree>) -> Result<(), NoMemory> {
     match found {
         None => put(out, b"none"),
-        Some(tree) => show_expr(out, tree.get()),
+        Some(tree) => show_expr(out, tree),
     }
 }
 
@@ -53,4 +53,26 @@ pub fn run(rt: &impl Abort, alloc: Global, rows: &str) -> Result<(), NoMemory> {
 /// The same, with the columns of all trees.
 pub fn run_places(rt: &impl Abort, alloc: Global, rows: &str) -> Result<(), NoMemory> {
     run_all(rt, alloc, true, rows)
+}
+
+/// Whether some tokens nest no deeper than the limit, and are an expression.
+fn is_expr(alloc: Global, tokens: &[Token]) -> bool {
+    if nesting(tokens).is_some() {
+        return false;
+    }
+    match parse_expr(alloc, tokens) {
+        Ok(Some(_)) => true,
+        _ => false,
+    }
+}
+
+/// Whether a source is an expression.
+pub fn is_read(alloc: Global, source: &[u8]) -> bool {
+    if source.len() > 1048576 {
+        return false;
+    }
+    match lex(alloc, source) {
+        Ok(tokens) => is_expr(alloc, tokens.as_slice()),
+        Err(_) => false,
+    }
 }
