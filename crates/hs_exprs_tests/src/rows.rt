@@ -1,6 +1,5 @@
 //! Rows, and the expressions that their sources are.
-use hs_exprs::parse_expr;
-use hs_exprs::nesting;
+use hs_exprs::{nesting, parse_expr};
 use hs_lex::lex::lex;
 use hs_syntax::expr_tree::ExprTree;
 use hs_syntax::token::Token;
