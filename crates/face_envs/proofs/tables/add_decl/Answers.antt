@@ -1,12 +1,34 @@
-use Rattle.std.proofs.Common.{◌≡◌, None, Some, cond, subst, rules}
+use Rattle.std.proofs.Common.{◌≡◌, ◌∙◌, ◌++◌, ◌∷◌, [], None, Some, ap, cond, subst, sym, rules}
+use Rattle.std.specs.Option.{IsSome}
 use Rattle.indexmap.specs.IndexMap.{get}
+use Rattle.mk_base.specs.contracts.name.NamePartialEq.TheImpl as derived
 use Rattle.face_model.specs.Environments.{same_name}
-use Rattle.face_envs.proofs.FirstPlaces.{placed_next, names_same, names_tell, names_turn}
+use Rattle.face_envs.specs.Tables.{row_of}
+use Rattle.face_envs.proofs.Rows.{row_more, names_same, names_tell, names_turn}
 use Rattle.face_envs.proofs.tables.add_decl.Goals as goal
 
-pub returns-in_ok-insert : goal.returns-in_ok-insert
-returns-in_ok-insert c = λ n.
-    let none : get same_name c.args.table.now c.args.name.now ≡ None = search rules in
-    placed_next same_name names_tell names_turn (get same_name c.args.table.now) (get same_name c.insert.new.self) c.args.name.now n c.args.place none
-    (subst (λ k. get same_name c.insert.new.self n ≡ cond (same_name k n) (Some c.args.place) (get same_name c.args.table.now n)) c.in_ok-copy.ensures
-    (subst (λ same. get same c.insert.new.self n ≡ cond (same c.in_ok-copy.field-0 n) (Some c.args.place) (get same c.args.table.now n)) names_same (c.in_ok-insert.ensures.updates.0 n)))
+pub returns-in_ok-push-in-Some : goal.returns-in_ok-push-in-Some
+returns-in_ok-push-in-Some c = λ n.
+    let old = c.args.table.now in
+    let key = c.args.name.now in
+    let w = c.push.new.self in
+    let new = c.get_mut.follows.lender w in
+    let value : get same_name old key ≡ Some c.in-Some.row.now = subst (λ same. get same old key ≡ Some c.in-Some.row.now) names_same (sym c.in-Some.ensures.value) in
+    let found : IsSome (get derived.eq-value.it old key) = subst IsSome c.in-Some.ensures.value (search rules) in
+    let is : get same_name new n ≡ cond (same_name key n) (Some w) (get same_name old n) = subst (λ same. get same new n ≡ cond (same key n) (Some w) (get same old n)) names_same (((c.get_mut.follows.holds w).3 found).0 n) in
+    row_more same_name names_tell names_turn (get same_name old) (get same_name new) key n w c.args.place is
+    (c.in_ok-push-in-Some.ensures.items ∙ ap (λ o. row_of o ++ c.args.place ∷ []) (sym value))
+
+pub returns-in_ok-insert-in-None : goal.returns-in_ok-insert-in-None
+returns-in_ok-insert-in-None c = λ n.
+    let old = c.args.table.now in
+    let key = c.args.name.now in
+    let w = c.push-in-None.new.self in
+    let new = c.insert.new.self in
+    let none : get same_name old key ≡ None = subst (λ same. get same old key ≡ None) names_same (sym c.in-None.ensures.value) in
+    let is : get same_name new n ≡ cond (same_name key n) (Some w) (get same_name old n) =
+    subst (λ t. get same_name new n ≡ cond (same_name key n) (Some w) (get same_name t n)) c.get_mut.follows.holds-at-none
+    (subst (λ k. get same_name new n ≡ cond (same_name k n) (Some w) (get same_name c.get_mut.follows.lender-at-none n)) c.in_ok-copy-in-None.ensures
+    (subst (λ same. get same new n ≡ cond (same c.in_ok-copy-in-None.field-0 n) (Some w) (get same c.get_mut.follows.lender-at-none n)) names_same (c.in_ok-insert-in-None.ensures.updates.0 n))) in
+    row_more same_name names_tell names_turn (get same_name old) (get same_name new) key n w c.args.place is
+    (c.in_ok-push-in-None.ensures.items ∙ (ap (λ xs. xs ++ c.args.place ∷ []) c.new-row.ensures.items ∙ ap (λ o. row_of o ++ c.args.place ∷ []) (sym none)))

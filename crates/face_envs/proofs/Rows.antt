@@ -1,6 +1,7 @@
--- Tables that keep the first place of a name.
-use Rattle.std.proofs.Common.{◌≡◌, ℕ, Bool, true, false, ◌&&◌, List, cond, nat_eq, Some, None, refl, ap, sym, ◌∙◌, subst}
+-- Tables that keep a row for each name.
+use Rattle.std.proofs.Common.{◌≡◌, ℕ, Bool, true, false, ◌&&◌, List, [], ◌∷◌, ◌++◌, cond, nat_eq, Some, None, refl, ap, sym, ◌∙◌, append-nil}
 use Rattle.std.specs.declared.option.Option.{Option}
+use Rattle.std.specs.Global.{Vec}
 use Rattle.std.specs.Cmp.Lexicographic.{nat_list_eq_equiv}
 use Rattle.std.proofs.lemmas.Bool.{and_parts}
 use Rattle.std.proofs.lemmas.Slice.Eq.{bytes_eq-Decides}
@@ -14,7 +15,7 @@ use Rattle.mk_base.specs.declared.name.Space.TheVariants.{Var, Con, Ty}
 use Rattle.mk_base.specs.declared.name.Name.{Name}
 use Rattle.mk_base.specs.declared.name.ModName.{ModName}
 use Rattle.face_model.specs.Environments.{same_name}
-use Rattle.face_envs.specs.Tables.{or_first, same_module}
+use Rattle.face_envs.specs.Tables.{row_of, same_module}
 
 texts_tell : (a b : List ℕ) → same_text a b ≡ true → a ≡ b
 texts_tell a b e = (bytes_eq-Decides a b).0 e
@@ -90,19 +91,48 @@ either : {G : Type 0} (b : Bool) → (b ≡ true → G) → (b ≡ false → G) 
 either true f g = f refl
 either false f g = g refl
 
-or_none : {V : Type 0} (o : Option V) → or_first o None ≡ o
-or_none None = refl
-or_none (Some x) = refl
+module _ {K A : Type 0} (same : K → K → Bool) (tell : (a b : K) → same a b ≡ true → a ≡ b) (turn : (a b : K) → same a b ≡ same b a) where
+  -- the row of one key is changed
+  pub row_put : (F : List A → List A) (f g : K → Option (Vec A)) (k m : K) (w : Vec A) → g m ≡ cond (same k m) (Some w) (f m) → w.items ≡ F (row_of (f k))
+      → row_of (g m) ≡ cond (same m k) (F (row_of (f m))) (row_of (f m))
+  row_put F f g k m w e is =
+      either (same k m)
+      (λ s.
+      ap row_of (e ∙ ap (λ b. cond b (Some w) (f m)) s)
+      ∙ (is
+      ∙ (ap (λ j. F (row_of (f j))) (tell k m s)
+      ∙ sym (ap (λ b. cond b (F (row_of (f m))) (row_of (f m))) (turn m k ∙ s)))))
+      (λ s.
+      ap row_of (e ∙ ap (λ b. cond b (Some w) (f m)) s)
+      ∙ sym (ap (λ b. cond b (F (row_of (f m))) (row_of (f m))) (turn m k ∙ s)))
 
--- a name that had no place has one, and no other name's is changed
-pub placed_next : {K V : Type 0} (same : K → K → Bool) (tell : (a b : K) → same a b ≡ true → a ≡ b) (turn : (a b : K) → same a b ≡ same b a)
-    → (f g : K → Option V) (k m : K) (v : V) → f k ≡ None → g m ≡ cond (same k m) (Some v) (f m) → g m ≡ or_first (f m) (cond (same m k) (Some v) None)
-placed_next {K} {V} same tell turn f g k m v none e =
+  -- the row of one key gets one element more at its end
+  pub row_more : (f g : K → Option (Vec A)) (k m : K) (w : Vec A) (x : A) → g m ≡ cond (same k m) (Some w) (f m) → w.items ≡ row_of (f k) ++ x ∷ []
+      → row_of (g m) ≡ row_of (f m) ++ cond (same m k) (x ∷ []) []
+  row_more f g k m w x e is =
+      either (same k m)
+      (λ s.
+      ap row_of (e ∙ ap (λ b. cond b (Some w) (f m)) s)
+      ∙ (is
+      ∙ (ap (λ j. row_of (f j) ++ x ∷ []) (tell k m s)
+      ∙ sym (ap (λ b. row_of (f m) ++ cond b (x ∷ []) []) (turn m k ∙ s)))))
+      (λ s.
+      ap row_of (e ∙ ap (λ b. cond b (Some w) (f m)) s)
+      ∙ (sym (append-nil (row_of (f m)))
+      ∙ sym (ap (λ b. row_of (f m) ++ cond {A = List A} b (x ∷ []) []) (turn m k ∙ s))))
+
+-- one row of a table of tables is changed
+pub nested_put : {K T A : Type 0} (same : K → K → Bool) (tell : (a b : K) → same a b ≡ true → a ≡ b) (turn : (a b : K) → same a b ≡ same b a)
+    → (row : Option T → List A) (F : List A → List A) (f g : K → Option T) (k m : K) (t : T) (b : Bool)
+    → g m ≡ cond (same k m) (Some t) (f m) → row (Some t) ≡ cond b (F (row (f k))) (row (f k))
+    → row (g m) ≡ cond (same m k && b) (F (row (f m))) (row (f m))
+nested_put {K} {T} same tell turn row F f g k m t b e is =
     either (same k m)
     (λ s.
-    let here : same m k ≡ true = turn m k ∙ s in
-    let old : f m ≡ None = ap f (sym (tell k m s)) ∙ none in
-    e ∙ ap (λ b. cond b (Some v) (f m)) s ∙ sym (ap (λ b. or_first (f m) (cond {A = Option V} b (Some v) None)) here ∙ ap (λ o. or_first o (Some v)) old))
+    ap row (e ∙ ap (λ c. cond c (Some t) (f m)) s)
+    ∙ (is
+    ∙ (ap (λ j. cond b (F (row (f j))) (row (f j))) (tell k m s)
+    ∙ sym (ap (λ c. cond (c && b) (F (row (f m))) (row (f m))) (turn m k ∙ s)))))
     (λ s.
-    let other : same m k ≡ false = turn m k ∙ s in
-    e ∙ ap (λ b. cond b (Some v) (f m)) s ∙ sym (ap (λ b. or_first (f m) (cond {A = Option V} b (Some v) None)) other ∙ or_none (f m)))
+    ap row (e ∙ ap (λ c. cond c (Some t) (f m)) s)
+    ∙ sym (ap (λ c. cond (c && b) (F (row (f m))) (row (f m))) (turn m k ∙ s)))
