@@ -32,9 +32,9 @@ found_side l ts = Some (l, ts)
 abbrev pub found_clause : Pos → LhsTree → Pos → Body → List Token → Found Clause
 found_clause at l p b ts = Some (clause at l (rhs_of p b), ts)
 
--- behind a left side: the body
-abbrev pub clause_body_at : Forms → Pos → LhsTree → List Token → Found Clause
-clause_body_at r at l ts = and_then (r.body false ts) (λ b end. Some (clause at l (rhs_of (place ts) b), end))
+-- a clause from its left side, with which its tokens begin, and the tokens behind that
+abbrev pub clause_body_at : Forms → List Token → LhsTree → List Token → Found Clause
+clause_body_at r ts l rest = and_then (r.body false rest) (λ b end. Some (clause (place ts) l (rhs_of (place rest) b), end))
 
 -- behind the <- of a qualifier or a statement: the expression
 abbrev pub bind_part_at : Forms → PatTree → List Token → Found Part

@@ -1116,23 +1116,25 @@ pub fn clause<'a>(alloc: Global, left: usize, tokens: &'a [Token]) -> Found<'a, 
     }
     match side(alloc, tokens)? {
         None => Ok(None),
-        Some((side, rest)) => clause_body(alloc, left - 1, place_of(tokens), side, rest),
+        Some((side, rest)) => clause_body(alloc, left - 1, tokens, side, rest),
     }
 }
 
-/// Behind the left side of a clause at a place: its body.
+/// A clause from its left side, with which its tokens begin, and the tokens behind that.
 #[cycle(expression)]
 fn clause_body<'a>(
     alloc: Global,
     left: usize,
-    at: Pos,
-    side: Boxed<LhsTree>,
     tokens: &'a [Token],
+    side: Boxed<LhsTree>,
+    rest: &'a [Token],
 ) -> Found<'a, Boxed<Clause>>
-    ensures { IfOk result (λ r. seen r ≡ steps.clause_body_at (spec.forms left) at side tokens.now) }
+    ensures { IfOk result (λ r. seen r ≡ steps.clause_body_at (spec.forms left) tokens.now side rest.now) }
 {
-    match body(alloc, left, false, tokens)? {
+    match body(alloc, left, false, rest)? {
         None => Ok(None),
-        Some((body, end)) => whole_clause(alloc, at, side, place_of(tokens), body, end),
+        Some((body, end)) => {
+            whole_clause(alloc, place_of(tokens), side, place_of(rest), body, end)
+        }
     }
 }
