@@ -1,7 +1,0 @@
-use Rattle.std.proofs.Common.{take}
-use Rattle.std.specs.List.{All}
-use Rattle.face_model.specs.Formed.{InstFormed}
-use Rattle.class_env_tests.proofs.formed.are_instances.Given as goal
-
-abbrev pub invariant-loop-i : goal.invariant-loop-i
-invariant-loop-i l = All InstFormed (take l.i-index l.insts)
