@@ -1,5 +1,5 @@
 //! What constraints come to.
-ghost use Rattle.std.specs.Prelude.{◌≡◌, IfOk};
+ghost use Rattle.std.specs.Prelude.{◌≡◌, ◌≤◌, ◌^◌, IfOk, OnErr};
 ghost use Rattle.class_env.specs.Answers.{fails_at};
 
 use face_model::scheme::Constraint;
@@ -51,17 +51,17 @@ pub enum Reduced {
     /// The first constraint without a result, at a place counted from 0: it needs a pair that has no instance with as
     /// many variables as the constructor has arguments.
     NoInstance {
-        at: u64,
+        at: u32,
         pair: Pair,
     },
     /// The same for a pair that has several such instances.
     Several {
-        at: u64,
+        at: u32,
         pair: Pair,
     },
     /// The same for a variable that is applied to types.
     NoInstanceVar {
-        at: u64,
+        at: u32,
     },
 }
 
@@ -77,8 +77,18 @@ impl Pair {
 }
 
 impl Fault {
-    /// The fault as that of the constraint at a place.
-    pub fn at(self, at: u64) -> Reduced
+    /// The fault as that of the constraint at a place; want of memory exactly where the place is 2^32 or more.
+    pub fn at(self, at: usize) -> Result<Reduced, NoMemory>
+        ensures told { IfOk result (λ r. r ≡ fails_at at self) }
+        ensures far { OnErr result (2 ^ 32 ≤ at) }
+    {
+        match u32::try_from(at) {
+            Ok(at) => Ok(self.told(at)),
+            Err(_) => Err(NoMemory),
+        }
+    }
+
+    fn told(self, at: u32) -> Reduced
         ensures { result ≡ fails_at at self }
     {
         match self {

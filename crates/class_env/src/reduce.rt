@@ -113,7 +113,8 @@ pub fn repeated_adds_nothing()
     ensures { RepeatedAddsNothing }
 {}
 
-/// Reduces constraints; no call changes the environment. Want of memory is the only error.
+/// Reduces constraints; no call changes the environment. Want of memory is the only error; it is answered too where the
+/// first constraint without a result stands at a place from 2^32 on, which the answer can't tell.
 pub fn reduce<E: Env>(
     alloc: Global,
     wanted: &List<Constraint>,
@@ -130,7 +131,7 @@ pub fn reduce<E: Env>(
     for at in 0..wanted.len() {
         let w = &wanted[at];
         if let Some(fault) = reduce_one(alloc, &w.class, &w.ty, env, &mut out)? {
-            return Ok(fault.at(at as u64));
+            return fault.at(at);
         }
     }
     let Gathered { rest, met } = out;
