@@ -10,16 +10,16 @@ use Rattle.class_env.specs.Instances.{Outcome, outcome, unless, then}
 use Rattle.class_env.specs.Reduce.{reduced, reduced_all}
 use Rattle.class_env.specs.Laws.{SameMembers}
 
-no_fault : (f : Fault) {A : Type 0} → Some f ≡ None → A
+pub no_fault : (f : Fault) {A : Type 0} → Some f ≡ None → A
 no_fault f e = absurd (let h : ⊥ = cc in h)
 
-both_none : (a b : Outcome) → (then a b).fault ≡ None → (a.fault ≡ None) × (b.fault ≡ None)
+pub both_none : (a b : Outcome) → (then a b).fault ≡ None → (a.fault ≡ None) × (b.fault ≡ None)
 both_none a b h = at a.fault refl h where
   at : (x : Option Fault) → a.fault ≡ x → (unless x a.rest a.met b).fault ≡ None → (a.fault ≡ None) × (b.fault ≡ None)
   at None e k = (e, k)
   at (Some f) e k = no_fault f k
 
-then_plain : (a b : Outcome) → a.fault ≡ None → then a b ≡ outcome (a.rest ++ b.rest) (a.met ++ b.met) b.fault
+pub then_plain : (a b : Outcome) → a.fault ≡ None → then a b ≡ outcome (a.rest ++ b.rest) (a.met ++ b.met) b.fault
 then_plain a b e = ap (λ x. unless x a.rest a.met b) e
 
 pub only_one : {X : Type 0} (w v : X) → Contains (w ∷ []) v → w ≡ v

@@ -5,3 +5,5 @@ pub mod Reduce
 pub mod Laws
 pub mod Answers
 pub mod Supers
+pub mod Entails
+pub mod EntailLaws
