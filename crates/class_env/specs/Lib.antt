@@ -5,5 +5,7 @@ pub mod Reduce
 pub mod Laws
 pub mod Answers
 pub mod Supers
+pub mod Defaults
+pub mod DefaultLaws
 pub mod Entails
 pub mod EntailLaws

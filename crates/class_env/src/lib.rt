@@ -2,6 +2,7 @@
 #![tactic(auto)]
 
 pub mod choice;
+pub mod defaults;
 pub mod entail;
 pub mod entail_laws;
 pub mod given;
