@@ -119,12 +119,20 @@ impl Env for OneFace {
         Err(NoMemory)
     }
 
-    fn exports(&mut self, _alloc: Global, _module: &ModName) -> Result<Option<List<Export>>, NoMemory> {
+    fn exports(
+        &mut self,
+        _alloc: Global,
+        _module: &ModName,
+    ) -> Result<Option<List<Export>>, NoMemory> {
         let _ = &self.face;
         Err(NoMemory)
     }
 
-    fn fingerprint(&mut self, _alloc: Global, _name: &Name) -> Result<Option<Fingerprint>, NoMemory> {
+    fn fingerprint(
+        &mut self,
+        _alloc: Global,
+        _name: &Name,
+    ) -> Result<Option<Fingerprint>, NoMemory> {
         let _ = &self.face;
         Err(NoMemory)
     }
