@@ -12,23 +12,23 @@ use Rattle.own_env.specs.Own.{known, with_own, decl_of}
 use Rattle.own_env.specs.Queries.{Query, Answer, declaration, fingerprint, exported, instances, instances_up_to, declared, printed, exporting, found, counted, ask, AnswerAlike, among, OwnAnswersAreTold}
 use Rattle.own_env.proofs.Behind.{decl_behind, print_behind, exports_behind, insts_behind, up_to_behind}
 
-decl_in : Answer → Option Decl
+abbrev decl_in : Answer → Option Decl
 decl_in (declared o) = o
 decl_in _ = None
 
-print_in : Answer → Option Fingerprint
+abbrev print_in : Answer → Option Fingerprint
 print_in (printed o) = o
 print_in _ = None
 
-exports_in : Answer → Option (List Export)
+abbrev exports_in : Answer → Option (List Export)
 exports_in (exporting o) = o
 exports_in _ = None
 
-found_in : Answer → List Inst
+abbrev found_in : Answer → List Inst
 found_in (found is) = is
 found_in _ = []
 
-count_in : Answer → ℕ
+abbrev count_in : Answer → ℕ
 count_in (counted n) = n
 count_in _ = 0
 
