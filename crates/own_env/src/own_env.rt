@@ -36,7 +36,9 @@ impl<E: Env> Env for OwnEnv<'_, E> {
 
     fn insts(&mut self, alloc: Global, class: &Name, head: &Name) -> Result<List<Inst>, NoMemory> {
         let own = self.own.face();
-        let front = self.outer.insts_up_to(alloc, class, head, &own.node.module)?;
+        let front = self
+            .outer
+            .insts_up_to(alloc, class, head, &own.node.module)?;
         let others = self.outer.insts(alloc, class, head)?;
         self.own.put_between(alloc, class, head, others, front)
     }
@@ -59,7 +61,11 @@ impl<E: Env> Env for OwnEnv<'_, E> {
         }
     }
 
-    fn exports(&mut self, alloc: Global, module: &ModName) -> Result<Option<List<Export>>, NoMemory> {
+    fn exports(
+        &mut self,
+        alloc: Global,
+        module: &ModName,
+    ) -> Result<Option<List<Export>>, NoMemory> {
         let _own = self.own.face();
         match self.outer.exports(alloc, module)? {
             Some(exports) => Ok(Some(exports)),

@@ -140,11 +140,7 @@ impl<'a> OwnFace<'a> {
     }
 
     /// What the face exports, where it is of this module.
-    pub fn exports(
-        &self,
-        alloc: Global,
-        module: &ModName,
-    ) -> Result<Option<List<Export>>, NoMemory>
+    pub fn exports(&self, alloc: Global, module: &ModName) -> Result<Option<List<Export>>, NoMemory>
         ensures { IfOk result (λ es. es ≡ (if same_module «module».now self.now.node.module then Some self.now.exports else None)) }
     {
         if *module == self.shown.node.module {
