@@ -13,7 +13,7 @@ fn cases(rt: HostRuntime) -> Result<(), Fail> {
         case x of {; y -> z;; _ -> w;} ==> (case x (alt y -> z) (alt _ -> w))\n\
         case x of {Just y -> z} ==> (case x (alt (con .Just y) -> z))\n\
         case x of {y : ys -> z} ==> (case x (alt (chain y .: ys) -> z))\n\
-        case x of {-1 -> z} ==> (case x (alt (minus 1) -> z))\n\
+        case x of { -1 -> z} ==> (case x (alt (minus 1) -> z))\n\
         case x of {y -> z :: a} ==> (case x (alt y -> (:: z a)))\n\
         case x of {y -> z where {w = 1}} ==> (case x (alt y -> z where ((function w) = 1)))\n\
         case x of {y -> z where {}} ==> (case x (alt y -> z where))\n\
@@ -75,7 +75,7 @@ fn statements(rt: HostRuntime) -> Result<(), Fail> {
         do {(x, y) <- z; w} ==> (do (<- (tuple x y) z) w)\n\
         do {Just x <- y; z} ==> (do (<- (con .Just x) y) z)\n\
         do {x : xs <- y; z} ==> (do (<- (chain x .: xs) y) z)\n\
-        do {-1 <- y; z} ==> (do (<- (minus 1) y) z)\n\
+        do { -1 <- y; z} ==> (do (<- (minus 1) y) z)\n\
         do {x@y <- z; x} ==> (do (<- x@ y z) x)\n\
         do {x :: a; y} ==> (do (:: x a) y)\n\
         do {x <- y :: a; z} ==> (do (<- x (:: y a)) z)\n\

@@ -74,7 +74,7 @@ fn deep_words(rt: HostRuntime) {
         (500, b"", b"let {} in ", b"x", b"", b""),
         (500, b"", b"if ", b"x", b" then x else x", b""),
         (500, b"", b"if x then x else ", b"x", b"", b""),
-        (500, b"", b"case ", b"x", b" of {}", b""),
+        (499, b"", b"case ", b"x", b" of {}", b""),
         (166, b"", b"case x of {x -> ", b"x", b"}", b""),
         (250, b"", b"do {x <- ", b"x", b"; x}", b""),
     ];
