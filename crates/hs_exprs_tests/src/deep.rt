@@ -71,7 +71,7 @@ fn deep_words(rt: HostRuntime) {
     const ROWS: [Row; 8] = [
         (250, b"", b"\\x -> ", b"x", b"", b""),
         (250, b"", b"let {x = ", b"x", b"} in x", b""),
-        (500, b"", b"let {} in ", b"x", b"", b""),
+        (499, b"", b"let {} in ", b"x", b"", b""),
         (500, b"", b"if ", b"x", b" then x else x", b""),
         (500, b"", b"if x then x else ", b"x", b"", b""),
         (499, b"", b"case ", b"x", b" of {}", b""),
