@@ -77,11 +77,11 @@ fn put_source(
 
 /// Reads a line.
 fn take_line(alloc: Global, work: &mut Work, line: &[u8]) -> Result<(), NoMemory> {
-    if line == b"layout" {
+    if line == b"layout".as_slice() {
         work.has_layout = true;
         return Ok(());
     }
-    if line == b"end" {
+    if line == b"end".as_slice() {
         put_source(alloc, &mut work.out, true, work.text.as_slice())?;
         work.text = List::new(alloc);
         work.has_layout = false;
