@@ -16,4 +16,10 @@ mod patterns;
 #[cfg(test)]
 mod rows;
 #[cfg(test)]
+mod show_names;
+#[cfg(test)]
+mod show_patterns;
+#[cfg(test)]
+mod show_types;
+#[cfg(test)]
 mod types;

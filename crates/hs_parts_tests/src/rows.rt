@@ -1,4 +1,7 @@
 //! Rows, and what is read of their sources.
+use crate::show_names::{Out, put};
+use crate::show_patterns::show_pattern;
+use crate::show_types::{show_fix, show_sig, show_type};
 use hs_lex::lex::lex;
 use hs_parts::parse::{parse_pattern, parse_type};
 use hs_parts::sigs::{fix, sig};
@@ -7,9 +10,6 @@ use mk_base::list::List;
 use mk_base::memory::NoMemory;
 use std::alloc::Global;
 use std::process::Abort;
-use tree_rows::names::{Out, put};
-use tree_rows::patterns::show_pattern;
-use tree_rows::types::{show_fix, show_sig, show_type};
 
 /// What is read.
 #[derive(Clone, Copy)]

@@ -11,4 +11,8 @@ mod deep;
 #[cfg(test)]
 mod rows;
 #[cfg(test)]
+mod show_names;
+#[cfg(test)]
+mod show_patterns;
+#[cfg(test)]
 mod sides;

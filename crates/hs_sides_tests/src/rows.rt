@@ -1,4 +1,6 @@
 //! Rows, and the left sides that are read of their sources.
+use crate::show_names::{Out, put};
+use crate::show_patterns::show_side;
 use hs_lex::lex::lex;
 use hs_sides::parse::parse_lhs;
 use hs_syntax::pattern_tree::LhsTree;
@@ -7,8 +9,6 @@ use mk_base::list::List;
 use mk_base::memory::NoMemory;
 use std::alloc::Global;
 use std::process::Abort;
-use tree_rows::names::{Out, put};
-use tree_rows::patterns::show_side;
 
 fn show_left(out: &mut Out, rest: &[Token]) -> Result<(), NoMemory> {
     put(out, b" ")?;

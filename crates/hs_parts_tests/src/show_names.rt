@@ -1,4 +1,4 @@
-//! Names, operators and literals.
+//! Names, operators and literals in rows.
 use hs_syntax::name_ref::{NameRef, OpName, QopTree};
 use hs_syntax::pattern_tree::GconTree;
 use hs_syntax::token::Token;
@@ -41,13 +41,6 @@ pub fn show_var(out: &mut Out, name: &NameRef) -> Result<(), NoMemory> {
 pub fn show_con(out: &mut Out, name: &NameRef) -> Result<(), NoMemory> {
     put(out, b".")?;
     show_var(out, name)
-}
-
-/// A space and the operator of a variable.
-pub fn show_var_op(out: &mut Out, op: &OpName) -> Result<(), NoMemory> {
-    put(out, b" ")?;
-    show_var(out, &op.name)?;
-    put_place(out, op.at)
 }
 
 /// A space and the operator of a constructor.

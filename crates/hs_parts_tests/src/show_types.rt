@@ -1,5 +1,5 @@
-//! Types, contexts, signatures and fixities.
-use crate::names::{Out, put, put_place, show_commas, show_con, show_op, show_var};
+//! Types, contexts, signatures and fixities in rows.
+use crate::show_names::{Out, put, put_place, show_commas, show_con, show_op, show_var};
 use hs_syntax::expr_tree::{FixTree, FixWord, SigTree};
 use hs_syntax::type_tree::{AtypeTree, BtypeTree, ClassTree, ContextTree, QualifiedType, TypeTree};
 use mk_base::memory::NoMemory;
@@ -139,8 +139,7 @@ fn show_context(out: &mut Out, tree: &ContextTree) -> Result<(), NoMemory> {
     }
 }
 
-/// A type with the context in front of it, where there is one.
-pub fn show_qualified(out: &mut Out, tree: &QualifiedType) -> Result<(), NoMemory> {
+fn show_qualified(out: &mut Out, tree: &QualifiedType) -> Result<(), NoMemory> {
     match &tree.context {
         None => show_type(out, &tree.ty)?,
         Some(context) => {

@@ -1,5 +1,5 @@
-//! Patterns and left sides.
-use crate::names::{
+//! Patterns and left sides in rows.
+use crate::show_names::{
     Out, put, put_place, show_con, show_con_op, show_gcon, show_literal, show_var, show_var_op,
 };
 use hs_syntax::pattern_tree::{ApatTree, FpatTree, LhsTree, PatLink, PatOperand, PatTree};
@@ -8,7 +8,7 @@ use sqlite_items::Boxed;
 
 /// A pattern.
 #[cycle(patterns)]
-pub fn show_pattern(out: &mut Out, tree: &PatTree) -> Result<(), NoMemory> {
+fn show_pattern(out: &mut Out, tree: &PatTree) -> Result<(), NoMemory> {
     if tree.links.len() == 0 {
         show_operand(out, &tree.last)?;
     } else {
@@ -63,9 +63,8 @@ fn show_operand(out: &mut Out, tree: &PatOperand) -> Result<(), NoMemory> {
     }
 }
 
-/// A space and a pattern, for each.
 #[cycle(patterns)]
-pub fn show_apats(out: &mut Out, parts: &[ApatTree]) -> Result<(), NoMemory> {
+fn show_apats(out: &mut Out, parts: &[ApatTree]) -> Result<(), NoMemory> {
     for i in 0..parts.len() {
         put(out, b" ")?;
         show_apat(out, &parts[i])?;
