@@ -8,7 +8,7 @@ use hs_syntax::expr_tree::{
 };
 use hs_syntax::name_ref::QopTree;
 use mk_base::memory::NoMemory;
-use sqlite_items::{Boxed, Items};
+use sqlite_items::Boxed;
 
 /// An expression.
 #[cycle(exprs)]
@@ -169,7 +169,10 @@ fn show_alt(out: &mut Out, tree: &AltTree) -> Result<(), NoMemory> {
             show_pattern(out, pattern)?;
             put(out, b" -> ")?;
             show_expr(out, body)?;
-            show_locals(out, locals)?;
+            if let Some(decls) = locals {
+                put(out, b" where")?;
+                show_decls(out, decls.as_slice())?;
+            }
             put(out, b")")?;
             put_place(out, *at)
         }
@@ -182,20 +185,12 @@ fn show_alt(out: &mut Out, tree: &AltTree) -> Result<(), NoMemory> {
             put(out, b" (alt ")?;
             show_pattern(out, pattern)?;
             show_arms(out, arms.as_slice())?;
-            show_locals(out, locals)?;
+            if let Some(decls) = locals {
+                put(out, b" where")?;
+                show_decls(out, decls.as_slice())?;
+            }
             put(out, b")")?;
             put_place(out, *at)
-        }
-    }
-}
-
-#[cycle(exprs)]
-fn show_locals(out: &mut Out, locals: &Option<Items<DeclTree>>) -> Result<(), NoMemory> {
-    match locals {
-        None => Ok(()),
-        Some(decls) => {
-            put(out, b" where")?;
-            show_decls(out, decls.as_slice())
         }
     }
 }
@@ -511,12 +506,18 @@ fn show_rhs(out: &mut Out, tree: &RhsTree) -> Result<(), NoMemory> {
         RhsTree::Plain { at, body, locals } => {
             put(out, b" = ")?;
             show_expr(out, body)?;
-            show_locals(out, locals)?;
+            if let Some(decls) = locals {
+                put(out, b" where")?;
+                show_decls(out, decls.as_slice())?;
+            }
             put_place(out, *at)
         }
         RhsTree::Guarded { at, arms, locals } => {
             show_arms(out, arms.as_slice())?;
-            show_locals(out, locals)?;
+            if let Some(decls) = locals {
+                put(out, b" where")?;
+                show_decls(out, decls.as_slice())?;
+            }
             put_place(out, *at)
         }
     }
