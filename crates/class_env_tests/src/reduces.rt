@@ -112,7 +112,8 @@ fn check_row(
 
 /// Checks the lines of a table over an environment.
 fn check_rows(rt: &impl Abort, alloc: Global, env: &[u8], rows: &[u8]) -> Result<(), NoMemory> {
-    let found = over(alloc, face(alloc, env)?)?;
+    let face = face(alloc, env)?;
+    let found = over(alloc, face)?;
     assert!(rt; found.is_some());
     if let Some(mut env) = found {
         for line in rows.split(|byte| *byte == b'\n') {

@@ -33,25 +33,48 @@ pub fn constraint(alloc: Global, word: &[u8]) -> Result<Constraint, NoMemory> {
     Ok(Constraint { class, ty })
 }
 
+/// Puts a constraint behind others; a word without letters is none.
+fn put_constraint(
+    alloc: Global,
+    all: &mut List<Constraint>,
+    word: &[u8],
+) -> Result<(), NoMemory> {
+    if word.is_empty() {
+        return Ok(());
+    }
+    let one = constraint(alloc, word)?;
+    all.push(one)
+}
+
 /// Constraints with a blank between them.
 pub fn constraints(alloc: Global, text: &[u8]) -> Result<List<Constraint>, NoMemory> {
     let mut all = List::new(alloc);
     for word in text.split(|byte| *byte == b' ') {
-        if !word.is_empty() {
-            all.push(constraint(alloc, word)?)?;
-        }
+        put_constraint(alloc, &mut all, word)?;
     }
     Ok(all)
 }
 
-/// A context: a letter for each class, with a digit for its variable.
+/// Puts a constraint on a variable behind others: a letter for the class, and a digit.
+fn put_on_variable(
+    alloc: Global,
+    all: &mut List<Constraint>,
+    letter: u8,
+    digit: u8,
+) -> Result<(), NoMemory> {
+    let class = class(alloc, letter)?;
+    let ty = Ty::Var(u64::from(digit.saturating_sub(b'0')));
+    all.push(Constraint { class, ty })
+}
+
+/// A context of two constraints at most: a letter for each class, with a digit for its variable.
 fn context(alloc: Global, text: &[u8]) -> Result<List<Constraint>, NoMemory> {
     let mut all = List::new(alloc);
-    for two in text.chunks(2) {
-        let class = class(alloc, byte_at(two, 0))?;
-        let variable = byte_at(two, 1).saturating_sub(b'0');
-        let ty = Ty::Var(u64::from(variable));
-        all.push(Constraint { class, ty })?;
+    if text.len() > 1 {
+        put_on_variable(alloc, &mut all, byte_at(text, 0), byte_at(text, 1))?;
+    }
+    if text.len() > 3 {
+        put_on_variable(alloc, &mut all, byte_at(text, 2), byte_at(text, 3))?;
     }
     Ok(all)
 }
@@ -94,26 +117,40 @@ fn declaration(alloc: Global, letter: u8, text: &[u8]) -> Result<Decl, NoMemory>
     })
 }
 
-/// A face of classes and instances, with a blank between them.
-pub fn face(alloc: Global, text: &[u8]) -> Result<Face, NoMemory> {
-    let mut decls = List::new(alloc);
-    let mut insts = List::new(alloc);
-    for word in text.split(|byte| *byte == b' ') {
-        if byte_at(word, 1) == b'>' {
-            let text = word.get(2..).unwrap_or(&[]);
-            decls.push(declaration(alloc, byte_at(word, 0), text)?)?;
-        } else if !word.is_empty() {
-            insts.push(instance(alloc, word)?)?;
-        }
+/// Puts a class or an instance into a face; a word without letters is neither.
+fn put_word(alloc: Global, face: &mut Face, word: &[u8]) -> Result<(), NoMemory> {
+    if word.is_empty() {
+        return Ok(());
     }
-    let module = Text::from_slice(alloc, b"M")?;
+    if byte_at(word, 1) == b'>' {
+        let text = word.get(2..).unwrap_or(&[]);
+        let one = declaration(alloc, byte_at(word, 0), text)?;
+        face.decls.push(one)
+    } else {
+        let one = instance(alloc, word)?;
+        face.insts.push(one)
+    }
+}
+
+/// A face that has nothing.
+fn empty_face(alloc: Global) -> Result<Face, NoMemory> {
+    let text = Text::from_slice(alloc, b"M")?;
     Ok(Face {
         node: Node {
-            module: ModName { text: module },
+            module: ModName { text },
             boot: false,
         },
-        decls,
-        insts,
+        decls: List::new(alloc),
+        insts: List::new(alloc),
         exports: List::new(alloc),
     })
+}
+
+/// A face of classes and instances, with a blank between them.
+pub fn face(alloc: Global, text: &[u8]) -> Result<Face, NoMemory> {
+    let mut made = empty_face(alloc)?;
+    for word in text.split(|byte| *byte == b' ') {
+        put_word(alloc, &mut made, word)?;
+    }
+    Ok(made)
 }
